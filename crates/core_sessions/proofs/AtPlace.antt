@@ -8,13 +8,14 @@ use Rattle.std.proofs.lemmas.Bool.{cases_lt, false≢true, eq-eqb}
 use Rattle.std.proofs.lemmas.Bool.Decides.{nat_tests}
 use Rattle.std.proofs.lemmas.Option.{slice_get_past, slice_get_read}
 use Rattle.core_sessions.proofs.InOrder.{IsPlace, above_first, found_at, is_found, other_number, rest_in_order}
-use Rattle.core_sessions.specs.Sessions.{HaveRisingNumbers, HasRoom, HasRoomForBoth, Session, SessionLearns, is_open, session_at, session_of}
-use Rattle.core_sessions.specs.Sessions.{sessions_of, start_of, with_changed}
+use Rattle.core_sessions.specs.Sessions.{HaveRisingNumbers, HasRoom, HasRoomForBoth, Session, SessionLearns, SessionLearnsVersion, is_open}
+use Rattle.core_sessions.specs.Sessions.{session_at, session_of, sessions_of, start_of, with_changed}
 use Rattle.core_sessions.specs.declared.sessions.CallStart.{CallStart}
-use Rattle.session_pass.specs.Floors.{floor_at}
-use Rattle.session_pass.specs.Passes.{LearnsEntry, SeenPass}
+use Rattle.session_pass.specs.Floors.{Learns, floor_at}
+use Rattle.session_pass.specs.Passes.{LearnsEntry, SeenPass, after_meeting, learnt}
 use Rattle.shard_log.specs.View.{View}
 use Rattle.tao_base.specs.Ids.{IsRising}
+use Rattle.tao_base.specs.Keys.{key_shard}
 use Rattle.tao_base.specs.declared.entry.Entry.{Entry}
 use Rattle.tao_base.specs.declared.id.Key.{Key}
 use Rattle.tao_base.proofs.Tests.{eqb-same}
@@ -126,6 +127,20 @@ module _ (n : ℕ) (xs : List SeenPass) (i : ℕ) (p : SeenPass) (here : StandsA
     is = set_changes xs i p q here.up here.at (ap (λ r. r.session) learns.rest);
   }
 
+  pub learns_version_there : (key : Key) (version spare : ℕ) (note : View) (q : SeenPass) → q ≡ learnt key version note spare p
+      → Learns key version p.floors q.floors → SessionLearnsVersion n key version note (sessions_of xs) (sessions_of (slice_set xs i q))
+  learns_version_there key version spare note q is floors = record {
+    from = session_of p;
+    to = session_of q;
+    found = session_is;
+    learns = record {
+      floors = floors;
+      rest = ap session_of is ∙ ap (λ fs. record (session_of p) { floors = fs; notes = after_meeting (key_shard key) note p.notes })
+          (sym (ap (λ (r : SeenPass). r.floors) is));
+    };
+    is = set_changes xs i p q here.up here.at (ap (λ (r : SeenPass). r.session) is);
+  }
+
 -- the room of a pass that was given some
 pub room_there : (n : ℕ) (xs : List SeenPass) (i : ℕ) (p q : SeenPass) (m : ℕ) → StandsAt n xs i p → q.session ≡ p.session → m ≤ q.spare
     → IfSome (find (λ r. r.session == n) (slice_set xs i q)) (λ r. m ≤ r.spare)
@@ -139,6 +154,14 @@ more_there n xs i p q here same spent both =
     let room = has_room n xs i p here 16 both in
     let left : 8 ≤ q.spare = omega (arith, room, spent) in
     room_there n xs i p q 8 here same left
+
+-- who has room for an entry has room for a key
+pub room_of_one : (n : ℕ) (xs : List SeenPass) → HasRoom n xs → IfSome (find (λ q. q.session == n) xs) (λ q. 1 ≤ q.spare)
+room_of_one n xs room = by (find (λ q. q.session == n) xs) room
+  where
+    by : (found : Option SeenPass) → IfSome found (λ q. 8 ≤ q.spare) → IfSome found (λ q. 1 ≤ q.spare)
+    by None room = tt
+    by (Some q) room = omega (arith, room)
 
 -- ---- over what the code holds
 

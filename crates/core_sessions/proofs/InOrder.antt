@@ -1,7 +1,7 @@
 -- Sessions in the order of their numbers: where one stands, and where a new one goes.
 use Rattle.std.proofs.Common.{◌≡◌, ℕ, zero, suc, ◌<◌, ◌≤◌, Bool, true, false, List, [], ◌∷◌, length, get_or, Option, Some, None, refl, ap, sym, ◌∙◌}
 use Rattle.std.proofs.Common.{subst, arith, inl, inr}
-use Rattle.std.specs.Prelude.{◌==◌, ◌||◌, nat_lt, slice_get, filter}
+use Rattle.std.specs.Prelude.{◌==◌, nat_lt, slice_get, filter}
 use Rattle.std.specs.List.{insert, AllByRecursion}
 use Rattle.std.specs.List.Sorted.{IsPartitionedBy, IsPartitionPoint}
 use Rattle.std.proofs.lemmas.Bool.{cases_Bool, or_parts}

@@ -1,10 +1,11 @@
 -- Open sessions, in the order of their numbers, and what they were told of.
 use Rattle.std.specs.Prelude.{ℕ, ◌≡◌, ◌≤◌, Bool, List, [], ◌∷◌, ◌++◌, ◌==◌, IfSome, Option, Some, filter, find, map, nat_lt, if◌then◌else◌}
 use Rattle.std.specs.List.{list_any}
-use Rattle.session_pass.specs.Floors.{LearnsTouches, floor_at, learnt_touches}
+use Rattle.session_pass.specs.Floors.{Learns, LearnsTouches, floor_at, learnt_touches}
 use Rattle.session_pass.specs.Passes.{SeenPass, after_meeting}
 use Rattle.shard_log.specs.View.{View}
 use Rattle.tao_base.specs.Ids.{IsRising}
+use Rattle.tao_base.specs.Keys.{key_shard}
 use Rattle.tao_base.specs.declared.entry.Entry.{Entry}
 use Rattle.tao_base.specs.declared.id.Key.{Key}
 use Rattle.core_sessions.specs.declared.sessions.CallStart.{CallStart}
@@ -75,6 +76,19 @@ pub record SessionLearns (number shard : ℕ) (entry : Entry) (note : View) (old
   pub to : Session
   pub found : session_at old number ≡ Some from
   pub learns : LearnsWith shard entry note from to
+  pub is : new ≡ with_changed to old
+
+-- the session after it learnt a version of a key, with a note of the key's shard
+pub record LearnsVersionWith (key : Key) (version : ℕ) (note : View) (old new : Session) : Type 0 where
+  pub floors : Learns key version old.floors new.floors
+  pub rest : new ≡ record old { floors = new.floors; notes = after_meeting (key_shard key) note old.notes }
+
+-- the session of that number learns a version of a key, with a note, and no other does
+pub record SessionLearnsVersion (number : ℕ) (key : Key) (version : ℕ) (note : View) (old new : List Session) : Type 0 where
+  pub from : Session
+  pub to : Session
+  pub found : session_at old number ≡ Some from
+  pub learns : LearnsVersionWith key version note from to
   pub is : new ≡ with_changed to old
 
 -- ---- room

@@ -47,11 +47,12 @@ impl Sessions {
     ghost use Rattle.std.specs.Option.{option_map};
     ghost use Rattle.std.specs.Prelude.{◌≡◌, ◌<◌, [], length, true, false, IfOk, IfSome, IsSomeAnd, OnOk, OnErr, Some, slice_get};
     ghost use Rattle.core_sessions.specs.Sessions.{HasRoom, HasRoomForBoth, SessionLearns, is_open, new_session, opening_of, session_at, sessions_of};
-    ghost use Rattle.core_sessions.specs.Sessions.{start_of, with_session};
+    ghost use Rattle.core_sessions.specs.Sessions.{SessionLearnsVersion, start_of, with_session};
     ghost use Rattle.graph_model.specs.Log.{entry_at};
     ghost use Rattle.graph_model.specs.Told.{WhereTold};
     ghost use Rattle.session_pass.specs.Floors.{floor_at};
-    ghost use Rattle.session_pass.specs.Passes.{IsNoteOf};
+    ghost use Rattle.session_pass.specs.Passes.{IsNoteOf, ReachesIn};
+    ghost use Rattle.tao_base.specs.Keys.{key_shard};
 
     /// No open session. Takes no memory.
     pub fn new(alloc: Global) -> Sessions
@@ -171,6 +172,19 @@ impl Sessions {
     {
         let place = place_of(&self.passes, session);
         self.passes[place].learn_entry(shard, entry, note);
+    }
+
+    /// The session learns a version of a key, to which the key has come in what the note has seen: its floor there is now the greater of that
+    /// and what it was. Takes no memory.
+    pub fn learn_version(&mut self, session: u32, key: Key, version: u64, note: Note)
+        requires open { is_open (sessions_of self.old) session ≡ true }
+        requires room { HasRoom session self.old }
+        requires shard { IfSome (session_at (sessions_of self.old) session) (λ s. IsNoteOf (key_shard key) note s.notes) }
+        requires reached { ReachesIn note key version }
+        ensures learns { SessionLearnsVersion session key version note (sessions_of self.old) (sessions_of self.new) }
+    {
+        let place = place_of(&self.passes, session);
+        self.passes[place].learn(key, version, note);
     }
 }
 

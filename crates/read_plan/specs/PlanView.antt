@@ -11,6 +11,7 @@ reading_seen p = record {
   floor = p.floor;
   critical = p.critical;
   follower = p.follower;
+  reader = p.reader;
   ask = p.ask;
   bound = p.bound;
   by = p.by;

@@ -8,8 +8,8 @@ use Rattle.read_plan.specs.declared.stages.ReadResult.{ReadResult}
 use Rattle.read_plan.specs.declared.standing.Standing.{Standing}
 use Rattle.read_plan.specs.declared.standing.Standing.TheVariants.{Looking, Asking, Mastering, Keeping, Ended}
 
--- a read: what it asks, from which tier, with which floor and at which follower; the ask that it opened, and the bound of the type that
--- it reads; who gave it what it is to keep; where it stands, and what its stages have cost
+-- a read: what it asks, from which tier, with which floor and at which follower; the session that is to learn which version it answers, where there is one;
+-- the ask that it opened, and the bound of the type that it reads; who gave it what it is to keep; where it stands, and what its stages have cost
 pub record Reading : Type 0 where
   pub query : Query
   pub region : ℕ
@@ -17,6 +17,7 @@ pub record Reading : Type 0 where
   pub floor : ℕ
   pub critical : Bool
   pub follower : NodeName
+  pub reader : Option ℕ
   pub ask : Option ℕ
   pub bound : ℕ
   pub by : Option NodeName
@@ -33,6 +34,7 @@ new_reading query region tier floor critical follower = record {
   floor = floor;
   critical = critical;
   follower = follower;
+  reader = None;
   ask = None;
   bound = 0;
   by = None;
@@ -49,6 +51,10 @@ taken outcome hops store p =
 -- a read that the node gives what it is to keep
 abbrev pub given_by : NodeName → Reading → Reading
 given_by node p = record p { by = Some node }
+
+-- a read of which the session is to learn
+abbrev pub read_by : ℕ → Reading → Reading
+read_by session p = record p { reader = Some session }
 
 -- a read whose fill is handed out
 abbrev pub fill_handed : Reading → Reading

@@ -27,6 +27,7 @@ pub struct ReadPlan {
     floor: u64,
     critical: bool,
     follower: NodeName,
+    reader: Option<u32>,
     ask: Option<AskNo>,
     bound: u64,
     by: Option<NodeName>,
@@ -48,11 +49,11 @@ impl Model for ReadPlan {
 
 impl ReadPlan {
     ghost use Rattle.read_plan.specs.Ends.{EndsWith};
-    ghost use Rattle.read_plan.specs.Readings.{NeverAsks, fill_handed, given_by, new_reading, note_handed, taken};
+    ghost use Rattle.read_plan.specs.Readings.{NeverAsks, fill_handed, given_by, new_reading, note_handed, read_by, taken};
     ghost use Rattle.read_plan.specs.Standings.{IsAnsweredFrom, came_of, fill_of, has_fill, standing_note, stage_of};
 
     /// A read that is begun: its query, the region and tier that it is asked from, by their places, its floor, whether it is
-    /// critical, and its follower. No ask is open for it, and the bound of its type is to be set.
+    /// critical, and its follower. No ask is open for it, no session is to learn of it, and the bound of its type is to be set.
     pub fn begin(
         query: Query,
         region: u16,
@@ -70,6 +71,7 @@ impl ReadPlan {
             floor,
             critical,
             follower,
+            reader: None,
             ask: None,
             bound: 0,
             by: None,
@@ -125,6 +127,20 @@ impl ReadPlan {
         ensures { result ≡ self.now.follower }
     {
         self.follower
+    }
+
+    /// The session that is to learn which version the read answers; none where the read is a refill's.
+    pub fn reader(&self) -> Option<u32>
+        ensures { result ≡ self.now.reader }
+    {
+        self.reader
+    }
+
+    /// Notes the session that is to learn which version the read answers.
+    pub fn set_reader(&mut self, session: u32)
+        ensures { self.new ≡ read_by session self.old }
+    {
+        self.reader = Some(session);
     }
 
     /// The ask that the follower opened for the read; none where it opened none.

@@ -63,8 +63,8 @@ use Rattle.tao_schema.specs.Schema.{types_of}
 use Rattle.topology.specs.Config.{Settings}
 use Rattle.core_plans.specs.declared.reads.Tally.{Tally}
 use Rattle.core_plans.specs.HeldReads.{ChangesFollowers, DoesAsk, DoesLook, DoesReadAndPasses, DoesReadStage, EndsAskAlone, EndsLegally, HasComeTo}
-use Rattle.core_plans.specs.HeldReads.{EndsReadAndPasses, IsReadUnderWay, MissesNone, StandsSo, read_is_down, version_now, wanted_by}
-use Rattle.core_plans.specs.Needs.{asked_of_read, read_down}
+use Rattle.core_plans.specs.HeldReads.{EndsReadAndPasses, IsReadUnderWay, MissesNone, StandsSo, version_now, wanted_by}
+use Rattle.core_plans.specs.Needs.{asked_of_read}
 use Rattle.core_plans.proofs.HeldReadLemmas.{IsPast, MayEnd, asked_stands, asking, asks_plain, filled, goes_so, legally, looked_stands, looking}
 use Rattle.core_plans.proofs.HeldReadLemmas.{mastered_stands, mastering, never_so, not_both, past}
 use Rattle.core_plans.proofs.Missing.{store_comes}
@@ -499,25 +499,25 @@ module _ (tells : Bool) (s : Settings) (p q : Reading) (old mid : World) (end : 
       lost_over (came.Master (Err (Refused refusal))) Mastering (mastering p.at at) refl took
       (inr (record { refusal = refusal; mid = mid; fails = not; ends = ends.ends; rest = alone; then = refl }))
 
--- ---- a node is down
+-- ---- in place of a stage
 
-pub ends_down : (tells : Bool) (s : Settings) (p q : Reading) (around : Nodes) (keepers : KeeperState) (link : LinkShown) (end : Fleet) (node : NodeName)
+-- it ends with that reply, and its ask too
+pub ends_over : (tells : Bool) (s : Settings) (p q : Reading) (around : Nodes) (keepers : KeeperState) (link : LinkShown) (end : Fleet) (reply : Reply)
     (next : ReadStage) (came_to : ReadResult) → IsConsistent tells s keepers.told around.fleet → IsReadUnderWay tells s keepers.told around.fleet p
-    → read_down around.topology p ≡ Some node → EndsAskAlone s p around.fleet end → next ≡ stage_of p.at
-    → came_to ≡ read_refused next (read_is_down node) → q ≡ taken came_to 0 false p
-    → EndsReadAndPasses (rules_of tells s) p (world around keepers link) q (world (record around { fleet = end }) keepers link)
-ends_down tells s p q around keepers link end node next came_to consistent is down ends next_is refused took =
+    → EndsAskAlone s p around.fleet end → next ≡ stage_of p.at → came_to ≡ read_refused next reply → q ≡ taken came_to 0 false p
+    → EndsReadAndPasses (rules_of tells s) reply p (world around keepers link) q (world (record around { fleet = end }) keepers link)
+ends_over tells s p q around keepers link end reply next came_to consistent is ends next_is refused took =
     let old : World = world around keepers link in
     let new : World = world (record around { fleet = end }) keepers link in
-    let outcome = read_refused (stage_of p.at) (read_is_down node) in
+    let outcome = read_refused (stage_of p.at) reply in
     let then : q ≡ taken outcome 0 false p =
-    took ∙ ap (λ o. taken o 0 false p) (refused ∙ ap (λ n. read_refused n (read_is_down node)) next_is) in
+    took ∙ ap (λ o. taken o 0 false p) (refused ∙ ap (λ n. read_refused n reply) next_is) in
     let on : ReadsOn tells s old new =
     on_after tells s old old end (on_same tells s old old refl refl refl consistent (λ told store. refl) (later_self keepers) (link_self link))
     ends.rest ends.fleet ends.goes (end_reaches keepers.told p.follower around.fleet end ends.rest p.ask ends.ends) in
     record {
-      ends = record { node = node; down = down; ends = ends.ends; rest = ap (λ f. record old { fleet = f }) ends.rest; then = then };
+      ends = record { ends = ends.ends; rest = ap (λ f. record old { fleet = f }) ends.rest; then = then };
       read = subst (IsReadUnderWay tells s keepers.told end) (sym then) (read_on tells s p old new is on outcome 0 false
-          (subst (StandsSo (types_of s.schema) (pens_of end.stores) (wanted_by p)) (sym (ended_read (stage_of p.at) (read_is_down node) p 0 false)) tt));
+          (subst (StandsSo (types_of s.schema) (pens_of end.stores) (wanted_by p)) (sym (ended_read (stage_of p.at) reply p 0 false)) tt));
       on = on;
     }

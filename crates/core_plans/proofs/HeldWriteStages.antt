@@ -11,7 +11,7 @@ use Rattle.core_steps.specs.declared.routes.TierPlace.{TierPlace}
 use Rattle.core_steps.specs.Posting.{PostsOn}
 use Rattle.core_steps.specs.World.{World}
 use Rattle.core_steps.specs.Routes.{hops_between}
-use Rattle.core_steps.specs.Writes.{CanBeApplied, client_call}
+use Rattle.core_steps.specs.Writes.{CanBeApplied, IsCommitted, asked_of_log, client_call}
 use Rattle.graph_model.proofs.Members.{if_some_at}
 use Rattle.graph_model.specs.Told.{WhereTold}
 use Rattle.node_name.specs.declared.NodeName.{NodeName}
@@ -22,13 +22,16 @@ use Rattle.replies.specs.declared.reply.Reply.{Reply}
 use Rattle.replies.specs.declared.reply.Reply.TheVariants as replied
 use Rattle.shard_log.specs.View.{View}
 use Rattle.shard_tables.specs.StoreView.{Store}
+use Rattle.shard_tables.specs.Written.{AnswersAs, AskedWrite}
 use Rattle.shard_tables.specs.declared.writes.Wrote.{Wrote}
 use Rattle.tao_base.specs.Writes.{write_shard}
+use Rattle.tao_base.specs.declared.entry.Entry.{Entry}
 use Rattle.tao_keeper.specs.Table.{Tables}
 use Rattle.tao_keeper.specs.declared.jobs.Job.{Job}
 use Rattle.tao_link.specs.Shown.{LinkShown}
 use Rattle.tao_schema.specs.Schema.{types_of}
 use Rattle.topology.specs.Config.{Settings}
+use Rattle.write_model.proofs.NextNumbers.{forward_origin}
 use Rattle.write_plan.specs.Committing.{has_inverse, kind_said}
 use Rattle.write_plan.specs.Plans.{Writing, after_stage, answered_job, back_stage, job_stage, next_of, stage_from as stage_by, written_there}
 use Rattle.write_plan.specs.Stages.{write_refused}
@@ -45,8 +48,8 @@ use Rattle.write_plan.specs.declared.results.WriteResult.TheVariants as came
 use Rattle.write_plan.specs.declared.stage.WriteStage.{WriteStage}
 use Rattle.write_plan.specs.declared.stage.WriteStage.TheVariants.{Commit, Inverse, End, Relay, Apply, Done}
 use Rattle.core_plans.specs.HeldWrites.{ComesOfCommit, CommitsBy, FindsNoLeader, IsAnswerTo, IsBefore, IsWriteUnderWay, PassesWriteStage, job_by}
-use Rattle.core_plans.specs.HeldWrites.{job_sender, taken_as, with_notes}
-use Rattle.core_plans.specs.LedBy.{Rules, led_by, rules_of}
+use Rattle.core_plans.specs.HeldWrites.{call_of_plan, come_past, job_sender, sent_by, taken_as, with_notes}
+use Rattle.core_plans.specs.LedBy.{LedBy, Rules, led_by, rules_of}
 use Rattle.core_plans.specs.Needs.{tier_of_write}
 use Rattle.core_plans.specs.declared.leaders.Leaders.{Leaders}
 use Rattle.core_plans.proofs.WritesGoOn.{write_later}
@@ -281,6 +284,7 @@ module _ (tells : Bool) (s : Settings) (tables : Tables) (f : Fleet) (p : Writin
     client = is.client;
     begun = begun;
     committed = IfSome_then p.committed is.committed (answer_stays _ refl refl);
+    own = is.own;
     spare = noted;
     relay = relayed;
     job = is.job;
@@ -319,14 +323,16 @@ module _ (tells : Bool) (s : Settings) (tables : Tables) (f : Fleet) (p : Writin
   committed_still : (outcome : Result CommitAnswer Reply) (hops : ℕ) → p.committed ≡ None
       → IfOk outcome (λ a. IsAnswerTo s f.stores p a.committed) → IfOk outcome (λ a. a ≡ with_notes a.committed)
       → IfOk outcome (λ a. IfSome a.committed.wrote.job (λ j. CanBeMerged tells s tables (job_by p j)))
+      → IfOk outcome (λ a. WhereTold tells (IfSome a.committed.wrote.entry (λ e. e.origin ≡ p.origin)))
       → IsWriteUnderWay tells s tables f (after_stage p (came.Commit outcome) hops)
-  committed_still (Ok a) hops none answer noted job = record {
+  committed_still (Ok a) hops none answer noted job own = record {
     follower = is.follower;
     region = is.region;
     changes = is.changes;
     client = is.client;
     begun = λ gone. absurd (cc);
     committed = answer_stays _ refl refl a.committed answer;
+    own = own;
     spare = λ unrefused before. ap (λ (x : CommitAnswer). Some x.spare) noted;
     relay = λ unrefused ahead. relay_there a.committed.passed a.committed.wrote.note a.relay (ap (λ (x : CommitAnswer). x.relay) noted);
     job = job;
@@ -334,7 +340,7 @@ module _ (tells : Bool) (s : Settings) (tables : Tables) (f : Fleet) (p : Writin
     other = subst (λ o. IfSome a.committed.wrote.job (λ j. StandsThere s j o f.stores)) (sym (is.begun none).1)
         (none_there s f.stores a.committed.wrote.job);
   }
-  committed_still (Err reply) hops none answer noted job = refused_still reply p.relay p.spare _
+  committed_still (Err reply) hops none answer noted job own = refused_still reply p.relay p.spare _
 
   module _ (job : Job) (at : answered_job p ≡ Some job) where
     not_begun : (due : OtherEnd) (other : Option Wrote) → p.committed ≡ None → (due ≡ Due) × (other ≡ None)
@@ -418,6 +424,21 @@ pub unled_still : (tells : Bool) (s : Settings) (tables : Tables) (f : Fleet) (p
     → FindsNoLeader p old q new → IsWriteUnderWay tells s tables f q
 unled_still tells s tables f p q old new is finds = subst (IsWriteUnderWay tells s tables f) (sym finds.then) (ended_still tells s tables f p is Commit _ 0)
 
+-- ---- its entry
+
+-- what the log answers to a write is under its origin
+answer_own : (asked : AskedWrite) (retry : Bool) (entry : Option Entry) → AnswersAs asked retry entry → IfSome entry (λ e. e.origin ≡ asked.origin)
+answer_own asked true (Some e) answers = answers.stands.origin_is
+answer_own asked false (Some e) answers = forward_origin asked.types asked.epoch asked.log asked.origin asked.write e answers.next.forward
+answer_own asked retry None answers = tt
+
+-- so is the entry of a commit
+pub its_own : (led : LedBy) (p : Writing) (wrote : Wrote) (old new : World)
+    → IsCommitted led.tells led.settings (sent_by led p) wrote (come_past led old) new
+    → WhereTold led.tells (IfSome wrote.entry (λ e. e.origin ≡ p.origin))
+its_own led p wrote old new commits told =
+    answer_own (asked_of_log led.settings old.keepers (call_of_plan p)) wrote.retry wrote.entry (commits.commits.answers told)
+
 -- ---- a stage was done
 
 -- the one that was next
@@ -452,12 +473,13 @@ module _ (tells : Bool) (s : Settings) (p q : Writing) (old new : World) (is : I
         then = then ∙ ap (λ a. after_stage p (came.Commit (Ok a)) hops) comes.notes;
       }),
       taken_on tells s new.keepers.told new.fleet p q (came.Commit (Ok answer)) hops then
-          (committed_still tells s new.keepers.told new.fleet p later (Ok answer) hops (before_commit p at) comes.is comes.notes comes.job),
+          (committed_still tells s new.keepers.told new.fleet p later (Ok answer) hops (before_commit p at) comes.is comes.notes comes.job
+          (its_own (led_by (rules_of tells s) leaders) p answer.committed.wrote old new comes.commits)),
     )
     commits_done (Err refusal) comes then = (
       inr (record { refusal = refusal; refuses = comes; then = then }),
       taken_on tells s new.keepers.told new.fleet p q (came.Commit (Err (replied.Refused refusal))) hops then
-          (committed_still tells s new.keepers.told new.fleet p later (Err (replied.Refused refusal)) hops (before_commit p at) tt tt tt),
+          (committed_still tells s new.keepers.told new.fleet p later (Err (replied.Refused refusal)) hops (before_commit p at) tt tt tt tt),
     )
 
     -- by these leaders, which may lead it

@@ -34,19 +34,20 @@ use Rattle.write_plan.specs.declared.stage.WriteStage.TheVariants.{Apply, Commit
 
 -- ---- reads
 
--- a read asks the same, at the same follower and floor
+-- a read asks the same, at the same follower and floor, for the same session
 pub record IsSameRead (p q : Reading) : Type 0 where
   pub query : q.query ≡ p.query
   pub region : q.region ≡ p.region
   pub floor : q.floor ≡ p.floor
   pub critical : q.critical ≡ p.critical
   pub follower : q.follower ≡ p.follower
+  pub reader : q.reader ≡ p.reader
 
 module _ (p q : Reading) (old new : World) where
   same_taken : (ask : Option ℕ) (by : Option NodeName) (at : Standing) (hops : ℕ) (store : Bool)
       → q ≡ record p { ask = ask; by = by; at = at; hops = hops; store = store } → IsSameRead p q
   same_taken ask by at hops store then =
-      subst (IsSameRead p) (sym then) (record { query = refl; region = refl; floor = refl; critical = refl; follower = refl })
+      subst (IsSameRead p) (sym then) (record { query = refl; region = refl; floor = refl; critical = refl; follower = refl; reader = refl })
 
   look_same : (s : Settings) (critical : Bool) → DoesLook s critical p old q new → IsSameRead p q
   look_same s false (inl looks) = same_taken _ _ _ _ _ looks.then
@@ -70,7 +71,7 @@ module _ (p q : Reading) (old new : World) where
 
   pub read_same : (rules : Rules) → ComesOfRead rules p old q new → IsSameRead p q
   read_same rules (inl does) = stage_same rules p.at does.does
-  read_same rules (inr ends) = same_taken _ _ _ _ _ ends.then
+  read_same rules (inr ends) = same_taken _ _ _ _ _ ends.over.then
 
   -- a read that did a stage had one before it
   stage_goes : (rules : Rules) (at : Standing) → DoesReadStage rules at p old q new → IsSome (stage_named (stage_of at))

@@ -15,6 +15,7 @@ pub mod HeldWriteStages
 pub mod StagesLeft
 pub mod InTurn
 mod InverseThere
+pub mod ReadEndings
 pub mod ReadRefusals
 mod ReadsHeld
 pub mod RefusedWrites

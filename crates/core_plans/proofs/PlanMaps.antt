@@ -2,15 +2,13 @@
 use Rattle.std.proofs.Common.{◌≡◌, ◌∙◌, ℕ, Bool, cond, refl, sym, ap, subst}
 use Rattle.std.specs.BTreeMap.{BTreeMap, WritesThrough, get}
 use Rattle.std.specs.Ordering.{nat_cmp}
-use Rattle.std.specs.Prelude.{IfSome, IsSome, Some}
-use Rattle.core_model.specs.Fleet.{Fleet}
-use Rattle.core_plans.specs.Held.{ChangesPlan, GivesUpPlan, IsUnderWay, Plans, StepsHeld, StepsPlan, given_up, learner, plan_at}
+use Rattle.std.specs.Prelude.{IsSome, Some}
+use Rattle.core_plans.specs.Held.{ChangesPlan, GivesUp, GivesUpPlan, Plans, StepsHeld, StepsPlan, learner, plan_at}
 use Rattle.core_plans.specs.declared.held.HeldPlan.{HeldPlan}
 use Rattle.core_plans.specs.LedBy.{rules_of}
 use Rattle.core_steps.specs.World.{World}
-use Rattle.tao_keeper.specs.Table.{Tables}
 use Rattle.topology.specs.Config.{Settings}
-use Rattle.tao_base.proofs.Tests.{eqb-self, same_order}
+use Rattle.tao_base.proofs.Tests.{same_order}
 
 changes_plan : (number : ℕ) (after : HeldPlan) (old new : BTreeMap ℕ HeldPlan) → IsSome (get nat_cmp old number)
     → WritesThrough nat_cmp (nat_cmp number) old after new → ChangesPlan number after old.entries new.entries
@@ -33,27 +31,15 @@ steps_plan tells s number plans map later before after old new is found steps wr
     })
 
 -- the plan that was found was given up, and written back
-pub gives_up_plan : (number : ℕ) (plans : Plans) (map later : BTreeMap ℕ HeldPlan) (before after : HeldPlan) → map.entries ≡ plans
-    → Some before ≡ get nat_cmp map number → IsSome (learner before) → after ≡ given_up before
-    → WritesThrough nat_cmp (nat_cmp number) map after later → GivesUpPlan number plans later.entries
-gives_up_plan number plans map later before after is found last given writes =
-    subst (λ seen. GivesUpPlan number seen later.entries) is (record {
+pub gives_up_plan : (number : ℕ) (plans : Plans) (map later : BTreeMap ℕ HeldPlan) (before after : HeldPlan) (old new : World) → map.entries ≡ plans
+    → Some before ≡ get nat_cmp map number → IsSome (learner before) → GivesUp before old after new
+    → WritesThrough nat_cmp (nat_cmp number) map after later → GivesUpPlan number plans old later.entries new
+gives_up_plan number plans map later before after old new is found last gives writes =
+    subst (λ seen. GivesUpPlan number seen old later.entries new) is (record {
       before = before;
+      after = after;
       stands = sym found;
       last = last;
-      changes = subst (λ plan. ChangesPlan number plan map.entries later.entries) given
-          (changes_plan number after map later (subst IsSome found refl) writes);
+      gives = gives;
+      changes = changes_plan number after map later (subst IsSome found refl) writes;
     })
-
--- the plan that was found was written back as it is then, which can go on where it could
-pub still_under_way : (tells : Bool) (s : Settings) (tables : Tables) (f : Fleet) (number : ℕ) (plans : Plans) (map later : BTreeMap ℕ HeldPlan)
-    (before after : HeldPlan) → map.entries ≡ plans → Some before ≡ get nat_cmp map number → WritesThrough nat_cmp (nat_cmp number) map after later
-    → (IsUnderWay tells s tables f before → IsUnderWay tells s tables f after)
-    → IfSome (plan_at plans number) (IsUnderWay tells s tables f) → IfSome (plan_at later.entries number) (IsUnderWay tells s tables f)
-still_under_way tells s tables f number plans map later before after is found writes still was =
-    let P = IsUnderWay tells s tables f in
-    let change = changes_plan number after map later (subst IsSome found refl) writes in
-    let now : plan_at later.entries number ≡ Some after =
-    change.sets number ∙ ap (λ b. cond b (Some after) (plan_at map.entries number)) (eqb-self number) in
-    let then : plan_at plans number ≡ Some before = subst (λ seen. plan_at seen number ≡ Some before) is (sym found) in
-    subst (λ o. IfSome o P) (sym now) (still (subst (λ o. IfSome o P) then was))

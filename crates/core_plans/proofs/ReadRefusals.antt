@@ -2,7 +2,7 @@
 use Rattle.std.proofs.Common.{◌≡◌, refl, Bool, true, false, Option, Some, None, ap, sym, ◌∙◌, subst, inl, inr}
 use Rattle.cache_items.specs.declared.look.Look.{Look}
 use Rattle.cache_items.specs.declared.look.Look.TheVariants.{Hit, Miss}
-use Rattle.core_plans.specs.HeldReads.{ComesOfRead, DoesKeep, DoesLook, DoesReadStage, EndsReadDown, read_is_down}
+use Rattle.core_plans.specs.HeldReads.{ComesOfRead, DoesKeep, DoesLook, DoesReadStage, EndsRead, EndsReadDown, read_is_down}
 use Rattle.core_plans.specs.LedBy.{Rules}
 use Rattle.core_plans.proofs.StageLemmas.{ended_read}
 use Rattle.core_steps.specs.World.{World}
@@ -84,10 +84,13 @@ stage_never rules (Ended end) p q old new is does = absurd does
 
 -- ---- a node is down
 
--- one whose next stage needs a node that is down ends with that refusal
+-- one that ends in place of its next stage ends with that refusal
+pub over_refused : (reply : Reply) (p q : Reading) (old new : World) → EndsRead reply p old q new → q.at ≡ Ended (ended.Refused reply)
+over_refused reply p q old new over = ap (λ (r : Reading). r.at) over.then ∙ ended_read (stage_of p.at) reply p 0 false
+
+-- so does one whose next stage needs a node that is down
 pub ends_refused : (p q : Reading) (old new : World) (ends : EndsReadDown p old q new) → q.at ≡ Ended (ended.Refused (read_is_down ends.node))
-ends_refused p q old new ends =
-    ap (λ (r : Reading). r.at) ends.then ∙ ended_read (stage_of p.at) (read_is_down ends.node) p 0 false
+ends_refused p q old new ends = over_refused (read_is_down ends.node) p q old new ends.over
 
 pub read_never : (rules : Rules) (p q : Reading) (old new : World) → ComesOfRead rules p old q new → NeverCalled q.at
 read_never rules p q old new (inl next) = stage_never rules p.at p q old new refl next.does

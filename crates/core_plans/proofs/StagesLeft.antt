@@ -101,7 +101,7 @@ read_comes_closer : (rules : Rules) (p q : Reading) (old new : World) → ComesO
 read_comes_closer rules p q old new (inl does) = read_closer rules p.at p q old new refl does.does
 read_comes_closer rules p q old new (inr ends) =
     let at = stage_of p.at in
-    subst (Below (read_stages_left at)) (sym ends.then) (subst (λ a. read_stages_left (stage_of a) < read_stages_left at)
+    subst (Below (read_stages_left at)) (sym ends.over.then) (subst (λ a. read_stages_left (stage_of a) < read_stages_left at)
     (sym (ended_read at (read_is_down ends.node) p 0 false)) (some_read_left at (read_needs_some old.states at p ends.node ends.down)))
 
 -- ---- writes

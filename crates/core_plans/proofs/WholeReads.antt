@@ -9,6 +9,7 @@ use Rattle.core_plans.specs.WholeCalls.{CarriesOut, PassesStage, read_stages_lef
 use Rattle.core_plans.specs.WholeLaws.{IsBegunRead, TellsCost, WholeRead}
 use Rattle.core_plans.specs.declared.held.HeldPlan.{HeldPlan}
 use Rattle.core_plans.specs.declared.held.HeldPlan.TheVariants.{Read, Write}
+use Rattle.core_plans.proofs.ReadEndings.{ended_legally, ended_reader}
 use Rattle.core_plans.proofs.ReadRefusals.{NeverCalled, ends_refused, read_never}
 use Rattle.core_plans.proofs.StagesLeft.{stage_closer}
 use Rattle.core_plans.proofs.Taking.{CarriesFew, HasCalled, HasTaken, both_carried, calls_more, none_between, none_called, none_carried, takes_more}
@@ -209,4 +210,6 @@ module _ (rules : Rules) (p : Reading) (old : World) (q : HeldPlan) (new : World
         (read_keeps rules (CostsSoFar old) (costs_on rules old) out.stages p q old new (begun_costs p old begun) out.passes) over;
     tables = λ out. (leaves out).tables;
     inboxes = λ out. (leaves out).inboxes;
+    legal = λ at out r is. ended_legally rules p r old new at (subst (λ x. CarriesOut rules (Read p) old x new) is out);
+    reader = λ at out r is. ended_reader rules p r old new at (subst (λ x. CarriesOut rules (Read p) old x new) is out);
   }

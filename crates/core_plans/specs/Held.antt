@@ -15,6 +15,8 @@ use Rattle.node_name.specs.declared.NodeName.{NodeName}
 use Rattle.read_plan.specs.Ends.{EndsWith}
 use Rattle.read_plan.specs.Readings.{Reading}
 use Rattle.read_plan.specs.Standings.{stage_named, stage_of}
+use Rattle.read_plan.specs.declared.stages.ReadStage.{ReadStage}
+use Rattle.read_plan.specs.declared.stages.ReadStage.TheVariants as reads
 use Rattle.read_plan.specs.declared.standing.Standing.{Standing}
 use Rattle.read_plan.specs.declared.standing.Standing.TheVariants.{Looking, Asking, Mastering, Keeping, Ended}
 use Rattle.replies.specs.declared.plans.Stage.{Stage}
@@ -30,7 +32,7 @@ use Rattle.write_plan.specs.Plans.{Writing, answered_job, next_of, reply_of}
 use Rattle.write_plan.specs.Stages.{stage_said}
 use Rattle.write_plan.specs.declared.stage.WriteStage.{WriteStage}
 use Rattle.write_plan.specs.declared.stage.WriteStage.TheVariants.{Apply}
-use Rattle.core_plans.specs.HeldReads.{IsReadUnderWay, StepsRead}
+use Rattle.core_plans.specs.HeldReads.{EndsRead, IsReadUnderWay, StepsRead, read_has_no_room}
 use Rattle.core_plans.specs.HeldWrites.{ComesOfWrite, IsBefore, IsWriteUnderWay, way_given_up}
 use Rattle.core_plans.specs.declared.held.HeldPlan.{HeldPlan}
 use Rattle.core_plans.specs.declared.held.HeldPlan.TheVariants.{Read, Write}
@@ -76,20 +78,31 @@ learnt_with (Called reply) (Read p) = nothing_learnt
 learnt_with reply plan = nothing_learnt
 
 -- the session of a write, where only its last stage is left
-abbrev pub learner_at : WriteStage → Origin → Option ℕ
-learner_at Apply (Client session seq) = Some session
-learner_at Apply (Merge shard position) = None
-learner_at next origin = None
+abbrev pub writer_at : WriteStage → Origin → Option ℕ
+writer_at Apply (Client session seq) = Some session
+writer_at Apply (Merge shard position) = None
+writer_at next origin = None
 
--- the session that learns of a plan of which only the last stage is left; None at other stages, and for reads and merges
+-- the session of a read before a stage that may answer it: its follower may at `look`, and at `keep` what was given is the answer
+abbrev pub reader_at : ReadStage → Option ℕ → Option ℕ
+reader_at reads.Look reader = reader
+reader_at reads.Keep reader = reader
+reader_at reads.Ask reader = None
+reader_at reads.Master reader = None
+reader_at reads.Done reader = None
+
+-- the session that is to learn of a plan, before a stage that may be its last; None at other stages, and for refills and merges
 abbrev pub learner : HeldPlan → Option ℕ
-learner (Write p) = learner_at (next_of p) p.origin
-learner (Read p) = None
+learner (Write p) = writer_at (next_of p) p.origin
+learner (Read p) = reader_at (stage_of p.at) p.reader
 
--- a write of which only the last stage is left ends without it, for want of memory
-abbrev pub given_up : HeldPlan → HeldPlan
-given_up (Write p) = Write (way_given_up p)
-given_up (Read p) = Read p
+-- a plan ends in place of a stage that may be its last, since memory was wanting for what its session is to learn: a write at the position of its entry,
+-- which stands, with nothing changed; and a read, with its ask
+abbrev pub GivesUp : HeldPlan → World → HeldPlan → World → Type 0
+GivesUp (Write p) old (Write q) new = (q ≡ way_given_up p) × (new ≡ old)
+GivesUp (Read p) old (Read q) new = EndsRead read_has_no_room p old q new
+GivesUp (Write p) old (Read q) new = ⊥
+GivesUp (Read p) old (Write q) new = ⊥
 
 -- ---- all plans
 
@@ -161,12 +174,14 @@ pub record StepsPlan (rules : Rules) (number : ℕ) (plans : Plans) (old : World
   pub steps : StepsHeld rules before old after new
   pub changes : ChangesPlan number after plans later
 
--- the plan of that number, a write of which only the last stage is left, ends without it, and no other changes
-pub record GivesUpPlan (number : ℕ) (plans later : Plans) : Type 0 where
+-- the plan of that number ends in place of a stage that may be its last, and no other changes
+pub record GivesUpPlan (number : ℕ) (plans : Plans) (old : World) (later : Plans) (new : World) : Type 0 where
   pub before : HeldPlan
+  pub after : HeldPlan
   pub stands : plan_at plans number ≡ Some before
   pub last : IsSome (learner before)
-  pub changes : ChangesPlan number (given_up before) plans later
+  pub gives : GivesUp before old after new
+  pub changes : ChangesPlan number after plans later
 
 -- ---- asks
 

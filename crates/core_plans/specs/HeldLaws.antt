@@ -12,17 +12,22 @@ use Rattle.core_model.specs.Reads.{EndsAsk, KeepsFill, LooksFirst, Wanted, taken
 use Rattle.core_model.specs.States.{AreSettled, nodes_now}
 use Rattle.core_model.specs.Writes.{AppliesTo}
 use Rattle.core_model.specs.declared.named.Named.{Named}
-use Rattle.core_plans.specs.Held.{AsksAreHeld, OpensNone, Plans}
+use Rattle.core_plans.specs.Held.{AsksAreHeld, OpensNone, Plans, StepsHeld, learner}
 use Rattle.core_plans.specs.HeldReads.{HasComeTo, MissesNone, StepsRead, version_now}
 use Rattle.core_plans.specs.HeldWrites.{ComesOfWrite}
 use Rattle.core_plans.specs.LedBy.{Rules, rules_of}
+use Rattle.core_plans.specs.declared.held.HeldPlan.TheVariants.{Read}
 use Rattle.core_steps.specs.World.{World}
 use Rattle.follower_cache.specs.Seen.{FollowerState}
 use Rattle.follower_cache.specs.declared.queue.Refill.{Refill}
 use Rattle.maint_msg.specs.Maints.{SeenMaint}
 use Rattle.node_name.specs.declared.NodeName.{NodeName}
+use Rattle.read_plan.specs.Ends.{EndsWith}
 use Rattle.read_plan.specs.Readings.{Reading}
 use Rattle.read_plan.specs.declared.standing.Standing.TheVariants.{Looking}
+use Rattle.replies.specs.declared.calls.CallReply.TheVariants as called
+use Rattle.replies.specs.declared.calls.ReadReply.{ReadReply}
+use Rattle.replies.specs.declared.reply.Reply.TheVariants.{Called}
 use Rattle.sealed_item.specs.Fills.{SealedItem}
 use Rattle.shard_log.specs.View.{View}
 use Rattle.tao_base.specs.EdgeTypes.{EdgeTypes}
@@ -70,6 +75,11 @@ pub record NothingIsMissedLater : Type 0 where
   -- one that begins misses nothing that stands
   pub begun : (tells : Bool) (s : Settings) (least : ℕ) (p : Reading) (keepers : KeeperState) → p.at ≡ Looking
       → least ≤ version_now s p keepers → MissesNone tells s least p keepers
+
+-- a stage of a held read leaves it for the same session; and where it answers the read, that session was known before it to be the one that is to learn
+pub record AnswersAreLearnt (rules : Rules) (p : Reading) (old : World) (q : Reading) (new : World) : Type 0 where
+  pub reader : StepsHeld rules (Read p) old (Read q) new → q.reader ≡ p.reader
+  pub learner : StepsHeld rules (Read p) old (Read q) new → (reply : ReadReply) → EndsWith q (Called (called.Read reply)) → learner (Read p) ≡ p.reader
 
 -- no stage of any read misses anything that the read didn't before, where each store has its shard's whole log, and each node that is up has processed
 -- it: a hit of its look, and what is given by who is asked, have the last version

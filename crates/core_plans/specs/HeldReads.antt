@@ -205,13 +205,21 @@ DoesReadStage rules (Ended end) p old q new = ⊥
 abbrev pub read_is_down : NodeName → Reply
 read_is_down node = Refused (Node (NodeDown node Before))
 
--- a node is down that the read's next stage needs: the read ends, and its ask, and nothing else changes
+-- the read ends with that reply in place of its next stage, and so does its ask, and nothing else changes
+pub record EndsRead (reply : Reply) (p : Reading) (old : World) (q : Reading) (new : World) : Type 0 where
+  pub ends : EndsItsAsk p old new
+  pub rest : ChangesFollowers old new
+  pub then : q ≡ taken (read_refused (stage_of p.at) reply) 0 false p
+
+-- a node is down that the read's next stage needs: the read ends
 pub record EndsReadDown (p : Reading) (old : World) (q : Reading) (new : World) : Type 0 where
   pub node : NodeName
   pub down : read_down old.states p ≡ Some node
-  pub ends : EndsItsAsk p old new
-  pub rest : ChangesFollowers old new
-  pub then : q ≡ taken (read_refused (stage_of p.at) (read_is_down node)) 0 false p
+  pub over : EndsRead (read_is_down node) p old q new
+
+-- the refusal of a read for whose session there is no room to learn which version it answers
+abbrev pub read_has_no_room : Reply
+read_has_no_room = Refused (Memory 0)
 
 -- all that the read's next stage needs are up, and it does that stage
 pub record DoesNextRead (rules : Rules) (p : Reading) (old : World) (q : Reading) (new : World) : Type 0 where
@@ -264,9 +272,9 @@ pub record DoesReadAndPasses (rules : Rules) (p : Reading) (old : World) (q : Re
   pub read : IsReadUnderWay rules.tells rules.settings new.keepers.told new.fleet q
   pub on : ReadsOn rules.tells rules.settings old new
 
--- a read ended since a node is down: it is over, and all else can go on
-pub record EndsReadAndPasses (rules : Rules) (p : Reading) (old : World) (q : Reading) (new : World) : Type 0 where
-  pub ends : EndsReadDown p old q new
+-- a read ended with that reply in place of its next stage: it is over, and all else can go on
+pub record EndsReadAndPasses (rules : Rules) (reply : Reply) (p : Reading) (old : World) (q : Reading) (new : World) : Type 0 where
+  pub ends : EndsRead reply p old q new
   pub read : IsReadUnderWay rules.tells rules.settings new.keepers.told new.fleet q
   pub on : ReadsOn rules.tells rules.settings old new
 

@@ -86,7 +86,7 @@ IsBefore Applied = ⊥
 
 -- a write of a client, at a follower that serves its shard, from a region of the configuration. Before its commit nothing is done of its other end.
 -- What the commit answered can be applied, by a second note that is there until it was, and relayed where a leader was passed, by a third one, and its job
--- merged; a job that was merged can be ended, and what was written at the other end stands there
+-- merged; a job that was merged can be ended, and what was written at the other end stands there. Its entry is under its own origin
 pub record IsWriteUnderWay (tells : Bool) (s : Settings) (tables : Tables) (f : Fleet) (p : Writing) : Type 0 where
   pub follower : IsFollowerFor s (write_shard p.write) p.follower
   pub region : p.region < length s.regions
@@ -94,6 +94,7 @@ pub record IsWriteUnderWay (tells : Bool) (s : Settings) (tables : Tables) (f : 
   pub client : IsTrue (is_client p.origin)
   pub begun : p.committed ≡ None → (p.job ≡ Due) × (p.other ≡ None)
   pub committed : IfSome p.committed (IsAnswerTo s f.stores p)
+  pub own : WhereTold tells (IfSome (answered_entry p) (λ e. e.origin ≡ p.origin))
   pub spare : p.refused ≡ None → IsBefore p.back → IfSome p.committed (λ c. p.spare ≡ Some c.wrote.note)
   pub relay : p.refused ≡ None → p.back ≡ Ahead → IfSome p.committed (λ c. IfSome c.passed (λ _. p.relay ≡ Some c.wrote.note))
   pub job : IfSome (answered_job p) (λ job. CanBeMerged tells s tables (job_by p job))

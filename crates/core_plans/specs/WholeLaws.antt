@@ -3,6 +3,7 @@ use Rattle.std.specs.Prelude.{ℕ, ◌≡◌, ◌≤◌, ◌+◌, All, IfSome, O
 use Rattle.core_model.specs.Consistent.{IsConsistent}
 use Rattle.core_model.specs.Stores.{HaveMasterRegions, stores_in}
 use Rattle.core_plans.specs.Held.{IsOver, learnt_with}
+use Rattle.core_plans.specs.HeldReads.{EndsLegally}
 use Rattle.core_plans.specs.HeldWrites.{IsWriteUnderWay}
 use Rattle.core_plans.specs.LedBy.{Rules, rules_of}
 use Rattle.core_plans.specs.Needs.{leaders_of_write}
@@ -53,12 +54,15 @@ pub record TellsCost (reply : ReadReply) (old new : World) : Type 0 where
   pub hops : reply.hops ≡ hops_between old.link new.link
   pub store : reply.store ≡ was_called old.keepers new.keepers
 
--- a read that does all of its stages: an answer tells what they took, and no table and no message changes
+-- a read that does all of its stages: an answer tells what they took, and is legal in the log as it is at their end; the read is for the session that
+-- it was begun for; and no table and no message changes
 pub record WholeRead (rules : Rules) (p : Reading) (old : World) (q : HeldPlan) (new : World) : Type 0 where
   pub cost : IsBegunRead p → CarriesOut rules (Read p) old q new → (reply : ReadReply) → IsOver q (Called (called.Read reply))
       → TellsCost reply old new
   pub tables : CarriesOut rules (Read p) old q new → KeepsTables rules.tells old.keepers new.keepers
   pub inboxes : CarriesOut rules (Read p) old q new → new.inboxes ≡ old.inboxes
+  pub legal : p.at ≡ Looking → CarriesOut rules (Read p) old q new → (r : Reading) → q ≡ Read r → EndsLegally rules.tells rules.settings r new
+  pub reader : p.at ≡ Looking → CarriesOut rules (Read p) old q new → (r : Reading) → q ≡ Read r → r.reader ≡ p.reader
 
 -- ---- writes
 

@@ -1,11 +1,10 @@
 //! `HeldPlan`.
-ghost use Rattle.std.specs.Prelude.{◌≡◌, IsSome, None, option_and_then};
-ghost use Rattle.core_plans.specs.Held.{IsOver, given_up, learner, next_stage, nothing_learnt, learnt_with};
+ghost use Rattle.std.specs.Prelude.{◌≡◌, None, option_and_then};
+ghost use Rattle.core_plans.specs.Held.{IsOver, learner, next_stage, nothing_learnt, learnt_with};
 ghost use Rattle.core_steps.specs.OtherEnds.{learnt_entry_of, learnt_far};
 
-use crate::writes::give_up_way;
 use core_steps::{LearntEntry, learnt_entry_of, learnt_far};
-use read_plan::ReadPlan;
+use read_plan::{ReadPlan, ReadStage};
 use replies::{Reply, Stage};
 use shard_tables::Wrote;
 use tao_base::Origin;
@@ -58,6 +57,26 @@ impl LearntEntries {
     }
 }
 
+/// The session of a read, before a stage that may answer it.
+fn reader_of(plan: &ReadPlan) -> Option<u32>
+    ensures { result ≡ learner (HeldPlan.Read plan.now) }
+{
+    match plan.next() {
+        ReadStage::Look | ReadStage::Keep => plan.reader(),
+        _ => None,
+    }
+}
+
+/// The session of a write of which only the last stage is left.
+fn writer_of(plan: &WritePlan) -> Option<u32>
+    ensures { result ≡ learner (HeldPlan.Write plan.now) }
+{
+    match (plan.next(), plan.origin()) {
+        (WriteStage::Apply, Origin::Client { session, .. }) => Some(session),
+        _ => None,
+    }
+}
+
 impl HeldPlan {
     /// The stage that follows. None exactly where none is left.
     pub fn next(&self) -> Option<Stage>
@@ -69,27 +88,14 @@ impl HeldPlan {
         }
     }
 
-    /// The session of a write, where only its last stage is left: it learns what the write wrote.
+    /// The session that is to learn of the plan, before a stage that may be its last: of a write what it wrote, of a read which version it
+    /// answers.
     pub fn learner(&self) -> Option<u32>
         ensures { result ≡ learner self.now }
     {
-        let HeldPlan::Write(plan) = self else {
-            return None;
-        };
-        match (plan.next(), plan.origin()) {
-            (WriteStage::Apply, Origin::Client { session, .. }) => Some(session),
-            _ => None,
-        }
-    }
-
-    /// Ends a write of which only the last stage is left, since memory is wanting.
-    pub(crate) fn give_up(&mut self)
-        requires { IsSome (learner self.old) }
-        ensures { self.new ≡ given_up self.old }
-    {
         match self {
-            HeldPlan::Write(plan) => give_up_way(plan),
-            HeldPlan::Read(_) => unreachable!(),
+            HeldPlan::Read(plan) => reader_of(plan),
+            HeldPlan::Write(plan) => writer_of(plan),
         }
     }
 

@@ -1,5 +1,5 @@
 //! What stays so, and what a plan comes to that is carried out whole. Each law is the contract of a function that does nothing.
-ghost use Rattle.core_plans.specs.HeldLaws.{AsksStayHeld, NothingIsMissedLater, StagesMissNothing};
+ghost use Rattle.core_plans.specs.HeldLaws.{AnswersAreLearnt, AsksStayHeld, NothingIsMissedLater, StagesMissNothing};
 ghost use Rattle.core_plans.specs.LedBy.{Rules};
 ghost use Rattle.core_plans.specs.WholeLaws.{WholeCallIsUp, WholeRead, WholeWrite, WrittenIsThere};
 ghost use Rattle.core_plans.specs.declared.held.HeldPlan.{HeldPlan as AnyPlan};
@@ -26,8 +26,14 @@ pub fn stages_miss_nothing()
     ensures { (s : Settings) (p q : Reading) (old new : World) → StagesMissNothing s p old q new }
 {}
 
-/// An answer of a read that does all of its stages tells exactly the carries that they took, and whether they called a keeper. Such a read
-/// changes no table and no message.
+/// A stage that answers a held read is one before which the session that is to learn of it is known, and no stage changes for whom a read is.
+#[tactic(auto, using(crate::proofs::ReadEndings::answers_are_learnt))]
+pub fn answers_are_learnt()
+    ensures { (rules : Rules) (p q : Reading) (old new : World) → AnswersAreLearnt rules p old q new }
+{}
+
+/// An answer of a read that does all of its stages tells exactly the carries that they took, and whether they called a keeper, and is legal in
+/// the log as it is at their end. Such a read changes no table and no message.
 #[tactic(auto, using(crate::proofs::WholeReads::whole_reads))]
 pub fn whole_reads()
     ensures { (rules : Rules) (p : Reading) (old : World) (q : AnyPlan) (new : World) → WholeRead rules p old q new }

@@ -1,8 +1,7 @@
 //! Who is chosen for the stages of a plan, and who has to be up for them.
 ghost use Rattle.std.specs.Prelude.{◌≡◌, None};
 ghost use Rattle.core_plans.specs.Needs.{asked_of_read, committer_of, down_of, first_down, last_leader, leader_to_pass, leaders_of_write, no_needs};
-ghost use Rattle.core_plans.specs.Needs.{read_down, read_needs, tier_of_write, write_down, write_needs};
-ghost use Rattle.read_plan.specs.Standings.{stage_of};
+ghost use Rattle.core_plans.specs.Needs.{read_down, tier_of_write, write_down, write_needs};
 ghost use Rattle.std.specs.Option.{option_map};
 ghost use Rattle.write_plan.specs.Plans.{next_of};
 
@@ -112,25 +111,6 @@ fn first_down(topology: &Topology, needs: Needs) -> Option<NodeName>
     }
 }
 
-/// Who has to be up for the next stage of a read.
-fn read_needs(plan: &ReadPlan) -> Needs
-    ensures { result ≡ read_needs (stage_of plan.now.at) plan.now }
-{
-    let follower = Some(plan.follower());
-    match plan.next() {
-        ReadStage::Look => Needs {
-            acting: follower,
-            sending: None,
-        },
-        ReadStage::Ask | ReadStage::Master => Needs::of_sender(follower),
-        ReadStage::Keep => Needs {
-            acting: follower,
-            sending: plan.by(),
-        },
-        ReadStage::Done => Needs::none(),
-    }
-}
-
 /// The leader that committed a write.
 fn committer_of(plan: &WritePlan) -> Option<NodeName>
     ensures { result ≡ committer_of plan.now }
@@ -182,11 +162,22 @@ fn write_needs(plan: &WritePlan) -> Needs
     }
 }
 
-/// The node that is down and that the next stage of a read needs.
+/// The node that is down and that the next stage of a read needs: its follower, or for the last stage who gave what that is to keep.
 pub(crate) fn read_down(topology: &Topology, plan: &ReadPlan) -> Option<NodeName>
     ensures { result ≡ read_down topology.now plan.now }
 {
-    first_down(topology, read_needs(plan))
+    let follower = Some(plan.follower());
+    match plan.next() {
+        ReadStage::Keep => first_down(
+            topology,
+            Needs {
+                acting: follower,
+                sending: plan.by(),
+            },
+        ),
+        ReadStage::Done => None,
+        _ => down_of(topology, follower),
+    }
 }
 
 /// The node that is down and that the next stage of a write needs.

@@ -1,13 +1,13 @@
 //! `HeldPlans`.
-ghost use Rattle.std.specs.Prelude.{◌≡◌, IfSome};
-ghost use Rattle.core_plans.specs.Held.{CanStep, IsThere, IsUnderWay, StepsHeld, StepsPlan};
+ghost use Rattle.std.specs.Prelude.{◌≡◌, IfSome, IsSome};
+ghost use Rattle.core_plans.specs.Held.{CanStep, GivesUp, IsThere, IsUnderWay, StepsHeld, StepsPlan, learner};
 ghost use Rattle.core_plans.specs.LedBy.{rules_of};
 ghost use Rattle.core_steps.specs.Posting.{CanPost, PostsOn};
 ghost use Rattle.core_steps.specs.World.{world};
 
 use crate::held::HeldPlan;
-use crate::reads::read_stage;
-use crate::writes::write_stage;
+use crate::reads::{give_up_read, read_stage};
+use crate::writes::{give_up_way, write_stage};
 use core_steps::Nodes;
 use std::alloc::Global;
 use std::collections::BTreeMap;
@@ -46,6 +46,30 @@ pub(crate) fn held_stage<K: Keeper, L: Link>(
     }
 }
 
+/// Ends a plan in place of a stage that may be its last, since memory is wanting for what its session is to learn.
+fn give_up_stage<K: Keeper, L: Link>(
+    nodes: &mut Nodes,
+    config: &Config,
+    keepers: &K,
+    link: &L,
+    plan: &mut HeldPlan,
+)
+    requires ready { CanPost K.TELLS config.now (world nodes.old (K.state keepers.now) (L.shown link.now)) }
+    requires there { IsThere K.TELLS config.now (K.state keepers.now).told nodes.old.fleet plan.old }
+    requires last { IsSome (learner plan.old) }
+    ensures gives_up { GivesUp plan.old (world nodes.old (K.state keepers.now) (L.shown link.now))
+        plan.new (world nodes.new (K.state keepers.now) (L.shown link.now)) }
+    ensures under_way { IsUnderWay K.TELLS config.now (K.state keepers.now).told nodes.new.fleet plan.new }
+    ensures on { PostsOn K.TELLS config.now
+        (world nodes.old (K.state keepers.now) (L.shown link.now))
+        (world nodes.new (K.state keepers.now) (L.shown link.now)) }
+{
+    match plan {
+        HeldPlan::Read(plan) => give_up_read(nodes, config, keepers, link, plan),
+        HeldPlan::Write(plan) => give_up_way(plan),
+    }
+}
+
 /// The plans that are held, by their numbers. A look-up is a search among them.
 #[derive(Drop)]
 pub struct HeldPlans {
@@ -61,11 +85,8 @@ impl Model for HeldPlans {
 }
 
 impl HeldPlans {
-    ghost use Rattle.std.specs.Prelude.{ℕ, ◌≡◌, Bool, IsSome, None, OnErr, OnOk, false, is_some, option_and_then, option_copied, true};
-    ghost use Rattle.core_model.specs.Fleet.{Fleet as Fleet_};
-    ghost use Rattle.core_plans.specs.Held.{AddsPlan, GivesUpPlan, TakesPlan, learner, plan_at, plan_count};
-    ghost use Rattle.tao_keeper.specs.Table.{Tables};
-    ghost use Rattle.topology.specs.Config.{Settings};
+    ghost use Rattle.std.specs.Prelude.{ℕ, ◌≡◌, None, OnErr, OnOk, false, is_some, option_and_then, option_copied, true};
+    ghost use Rattle.core_plans.specs.Held.{AddsPlan, GivesUpPlan, TakesPlan, plan_at, plan_count};
 
     /// None is held. Takes no memory.
     pub fn new(alloc: Global) -> HeldPlans
@@ -125,16 +146,29 @@ impl HeldPlans {
         self.plans.remove(&number)
     }
 
-    /// Ends a write of which only the last stage is left, since memory is wanting for what its session is to learn: the write stands, at
-    /// the position that its reply tells, and nothing changes but the plan, which stays. Takes no memory.
-    pub fn give_up(&mut self, number: u32)
-        requires { IsSome (option_and_then learner (plan_at self.old number)) }
-        ensures gives_up { GivesUpPlan number self.old self.new }
-        ensures under_way { (tells : Bool) (s : Settings) (tables : Tables) (f : Fleet_) → IfSome (plan_at self.old number) (IsUnderWay tells s tables f)
-            → IfSome (plan_at self.new number) (IsUnderWay tells s tables f) }
+    /// Ends the plan of that number in place of a stage that may be its last, since memory is wanting for what its session is to learn. A write
+    /// stands, at the position that its reply tells, and of a read the ask ends; nothing else changes but the plan, which stays. Takes no memory.
+    pub fn give_up<K: Keeper, L: Link>(
+        &mut self,
+        nodes: &mut Nodes,
+        config: &Config,
+        keepers: &K,
+        link: &L,
+        number: u32,
+    )
+        requires ready { CanPost K.TELLS config.now (world nodes.old (K.state keepers.now) (L.shown link.now)) }
+        requires can { CanStep K.TELLS config.now (K.state keepers.now).told nodes.old.fleet (plan_at self.old number) }
+        requires last { IsSome (option_and_then learner (plan_at self.old number)) }
+        ensures gives_up { GivesUpPlan number
+            self.old (world nodes.old (K.state keepers.now) (L.shown link.now))
+            self.new (world nodes.new (K.state keepers.now) (L.shown link.now)) }
+        ensures under_way { IfSome (plan_at self.new number) (IsUnderWay K.TELLS config.now (K.state keepers.now).told nodes.new.fleet) }
+        ensures on { PostsOn K.TELLS config.now
+            (world nodes.old (K.state keepers.now) (L.shown link.now))
+            (world nodes.new (K.state keepers.now) (L.shown link.now)) }
     {
         match self.plans.get_mut(&number) {
-            Some(plan) => plan.give_up(),
+            Some(plan) => give_up_stage(nodes, config, keepers, link, plan),
             None => unreachable!(),
         }
     }

@@ -4,8 +4,8 @@ ghost use Rattle.core_model.specs.Consistent.{IsConsistent, IsFleetOf};
 ghost use Rattle.core_model.specs.Serving.{IsFollowerFor};
 ghost use Rattle.core_model.specs.States.{AreStatesOf};
 ghost use Rattle.core_plans.specs.HeldReads.{DoesReadAndPasses, EndsAskAlone, EndsReadAndPasses, IsReadUnderWay, PassesReadStage, at_bound};
+ghost use Rattle.core_plans.specs.HeldReads.{read_has_no_room, read_is_down};
 ghost use Rattle.core_plans.specs.LedBy.{rules_of};
-ghost use Rattle.core_plans.specs.Needs.{read_down};
 ghost use Rattle.core_steps.specs.World.{world};
 ghost use Rattle.read_plan.specs.Readings.{new_reading, taken};
 ghost use Rattle.read_plan.specs.Standings.{IsAnsweredFrom, came_of, stage_named, stage_of};
@@ -260,28 +260,51 @@ fn keep_stage<K: Keeper, L: Link>(
     }
 }
 
-/// Ends a read whose next stage needs a node that is down, and its ask.
-fn end_down<K: Keeper, L: Link>(
+/// Ends a read with that reply in place of its next stage, and its ask.
+fn end_read<K: Keeper, L: Link>(
     nodes: &mut Nodes,
     config: &Config,
     keepers: &K,
     link: &L,
-    node: NodeName,
+    reply: Reply,
     plan: &mut ReadPlan,
 )
     requires consistent { IsConsistent K.TELLS config.now (K.state keepers.now).told nodes.old.fleet }
     requires read { IsReadUnderWay K.TELLS config.now (K.state keepers.now).told nodes.old.fleet plan.old }
-    requires down { read_down nodes.old.topology plan.old ≡ Some node }
-    ensures { EndsReadAndPasses (rules_of K.TELLS config.now) plan.old (world nodes.old (K.state keepers.now) (L.shown link.now))
+    requires goes_on { IsSome (stage_named (stage_of plan.old.at)) }
+    ensures { EndsReadAndPasses (rules_of K.TELLS config.now) reply plan.old (world nodes.old (K.state keepers.now) (L.shown link.now))
         plan.new (world nodes.new (K.state keepers.now) (L.shown link.now)) }
 {
     end_ask_of(&mut nodes.fleet, config, plan);
-    let reply = Reply::Refused(Refusal::Node(NodeRefused::NodeDown {
-        node,
-        when: When::Before,
-    }));
     let outcome = plan.next().refused(reply);
     plan.take(outcome, 0, false);
+}
+
+/// The refusal of a read whose next stage needs a node that is down.
+fn read_is_down(node: NodeName) -> Reply
+    ensures { result ≡ read_is_down node }
+{
+    Reply::Refused(Refusal::Node(NodeRefused::NodeDown {
+        node,
+        when: When::Before,
+    }))
+}
+
+/// Ends a read in place of a stage that may be its last, since memory is wanting for what its session is to learn.
+pub(crate) fn give_up_read<K: Keeper, L: Link>(
+    nodes: &mut Nodes,
+    config: &Config,
+    keepers: &K,
+    link: &L,
+    plan: &mut ReadPlan,
+)
+    requires consistent { IsConsistent K.TELLS config.now (K.state keepers.now).told nodes.old.fleet }
+    requires read { IsReadUnderWay K.TELLS config.now (K.state keepers.now).told nodes.old.fleet plan.old }
+    requires goes_on { IsSome (stage_named (stage_of plan.old.at)) }
+    ensures { EndsReadAndPasses (rules_of K.TELLS config.now) read_has_no_room plan.old (world nodes.old (K.state keepers.now) (L.shown link.now))
+        plan.new (world nodes.new (K.state keepers.now) (L.shown link.now)) }
+{
+    end_read(nodes, config, keepers, link, out_of_memory(), plan);
 }
 
 /// Does the stage of a read that follows, with all that it needs up.
@@ -328,7 +351,7 @@ pub fn read_stage<K: Keeper, L: Link>(
         plan.new (world nodes.new (K.state keepers.new) (L.shown link.new)) }
 {
     match read_down(&nodes.topology, plan) {
-        Some(node) => end_down(nodes, config, keepers, link, node, plan),
+        Some(node) => end_read(nodes, config, keepers, link, read_is_down(node), plan),
         None => next_stage(nodes, config, keepers, link, plan),
     }
 }

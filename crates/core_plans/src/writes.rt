@@ -93,7 +93,9 @@ fn out_of_memory_back(plan: &WritePlan) -> Reply
 /// Ends a write of which only the last stage is left, since memory is wanting for what its session is to learn.
 pub(crate) fn give_up_way(plan: &mut WritePlan)
     requires { next_of plan.old ≡ stage.Apply }
-    ensures { plan.new ≡ way_given_up plan.old }
+    ensures then { plan.new ≡ way_given_up plan.old }
+    ensures write { (tells : Bool) (s : Settings) (tables : Tables) (f : Fleet) → IsWriteUnderWay tells s tables f plan.old
+        → IsWriteUnderWay tells s tables f plan.new }
 {
     let reply = out_of_memory_back(plan);
     plan.take(WriteResult::Apply(Err(reply)), 0);

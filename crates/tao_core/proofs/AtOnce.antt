@@ -1,17 +1,16 @@
--- A plan that does all of its stages at once: its session may learn what it is told, what is kept has come far, and no ask stays open.
+-- A plan that does all of its stages at once: its session may learn of it, what is kept has come far, and no ask stays open.
 use Rattle.std.proofs.Common.{◌≡◌, ℕ, zero, suc, Bool, true, false, List, Option, Some, None, refl, ap, sym, ◌∙◌, subst, inl, inr}
 use Rattle.std.specs.Prelude.{◌⊎◌, All, IsSome}
 use Rattle.core_model.specs.Consistent.{IsConsistent}
-use Rattle.core_model.specs.Pens.{pens_of}
+use Rattle.core_model.specs.Pens.{Pens, Rise, pens_of}
 use Rattle.core_model.specs.Stores.{HaveMasterRegions}
-use Rattle.core_plans.proofs.InTurn.{goes_on}
-use Rattle.core_plans.specs.Held.{HoldsAsk, IsOpenAt, IsOver, IsUnderWay, OpensFirst, OpensNone, StepsHeld, next_stage, learnt_with}
+use Rattle.core_plans.proofs.InTurn.{goes_on, read_same, write_same}
+use Rattle.core_plans.specs.Held.{HoldsAsk, IsOpenAt, IsOver, IsUnderWay, OpensFirst, OpensNone, StepsHeld, next_stage}
 use Rattle.core_plans.specs.HeldLaws.{Followers}
 use Rattle.core_plans.specs.LedBy.{Rules, rules_of}
 use Rattle.core_plans.specs.WholeCalls.{CarriesOut, PassesStages}
 use Rattle.core_plans.specs.declared.held.HeldPlan.{HeldPlan}
 use Rattle.core_plans.specs.declared.held.HeldPlan.TheVariants.{Read, Write}
-use Rattle.core_plans.proofs.InTurn.{write_same}
 use Rattle.core_sessions.specs.Sessions.{HasRoomForBoth, Session, sessions_of}
 use Rattle.core_steps.specs.Posting.{PostsOn}
 use Rattle.core_steps.specs.World.{World, world}
@@ -20,16 +19,18 @@ use Rattle.node_name.specs.declared.NodeName.{NodeName}
 use Rattle.replies.specs.declared.plans.Stage.{Stage}
 use Rattle.replies.specs.declared.reply.Reply.{Reply}
 use Rattle.session_pass.specs.Passes.{SeenPass}
+use Rattle.tao_base.specs.Queries.{query_shard}
+use Rattle.tao_base.specs.declared.query.Query.{Query}
 use Rattle.tao_keeper.specs.KeeperState.{KeeperState}
 use Rattle.tao_link.specs.Shown.{LinkShown}
 use Rattle.topology.specs.Config.{Settings}
-use Rattle.read_plan.specs.Readings.{Reading}
 use Rattle.tao_core.specs.Core.{CoreState, IsConsistentCore, IsOfSession, IsSessionOf, LeavesCore, author, moment}
-use Rattle.tao_core.specs.HeldCalls.{DoesAtOnce, HasRoomAlready, HasRoomFor, HeldReaches, LearnsOf, MayLearn}
+use Rattle.tao_core.specs.HeldCalls.{DoesAtOnce, HasRoomFor, HeldReaches, IsReaderOf, LearnsOf, MayLearn}
+use Rattle.tao_core.specs.declared.teaching.Reader.{Reader}
 use Rattle.tao_core.proofs.HeldKeeping.{stepped_core, with_sessions}
 use Rattle.tao_core.proofs.HeldLearning.{author_stays, learns_open, learns_ours, may_learn}
 use Rattle.tao_core.proofs.StayOpen.{StayOpen}
-use Rattle.core_plans.specs.declared.held.LearntEntries.{LearntEntries}
+use Rattle.tao_core.proofs.LearningReads.{ReachesEnd, reader_later, step_reaches}
 use Rattle.tao_core.proofs.HeldOn.{none_come}
 use Rattle.tao_core.proofs.HeldSteps.{MayHold, held_after, kept, kept_may, steps_asks}
 use Rattle.tao_core.proofs.NamesOnce.{stand_alone}
@@ -37,17 +38,29 @@ use Rattle.tao_core.proofs.Reaching.{held_reaches}
 use Rattle.tao_core.specs.Calls.{world_at}
 use Rattle.topology.specs.States.{NodeStates}
 
+-- the session of a plan has room for all that it may learn of it, and who is ready is the session of a read
+abbrev pub HasRoomAlready : Pens → HeldPlan → Option Reader → List SeenPass → Type 0
+HasRoomAlready pens (Write p) reader passes = HasRoomForBoth (author p.origin) passes
+HasRoomAlready pens (Read p) reader passes = IsReaderOf pens (query_shard p.query) p.reader reader passes
+
 kept_here : (next : Option Stage) (plan : HeldPlan) → IsSome next → kept next plan ≡ Some plan
 kept_here (Some stage) plan some = refl
 kept_here None plan some = absurd (cc)
 
-room_for : (plan : HeldPlan) (passes : List SeenPass) → HasRoomAlready plan passes → HasRoomFor plan passes
-room_for (Write p) passes room = λ over reply is. room
-room_for (Read p) passes room = tt
+room_for : (pens : Pens) (plan : HeldPlan) (reader : Option Reader) (passes : List SeenPass) → HasRoomAlready pens plan reader passes
+    → HasRoomFor pens plan reader passes
+room_for pens (Write p) reader passes room = λ over reply is. room
+room_for pens (Read p) reader passes room = λ reply ends. room
+
+-- there is room still as logs grow
+room_later : (pens later : Pens) (plan : HeldPlan) (reader : Option Reader) (passes : List SeenPass) → Rise pens later
+    → HasRoomAlready pens plan reader passes → HasRoomAlready later plan reader passes
+room_later pens later (Write p) reader passes rise room = room
+room_later pens later (Read p) reader passes rise room = reader_later pens later (query_shard p.query) p.reader reader passes rise room
 
 -- each session that is open stays so, whatever that of a plan learns
-pub learns_stay : (plan : HeldPlan) (told : LearntEntries) (old new : List Session) → LearnsOf plan told old new → StayOpen old new
-learns_stay plan told old new learns = record { stays = λ n there. learns_open plan told old new learns n ∙ there }
+pub learns_stay : (pens : Pens) (plan : HeldPlan) (reply : Reply) (old new : List Session) → LearnsOf pens plan reply old new → StayOpen old new
+learns_stay pens plan reply old new learns = record { stays = λ n there. learns_open pens plan reply old new learns n ∙ there }
 
 module _ (tells : Bool) (s : Settings) where
   abbrev By : Rules
@@ -61,43 +74,41 @@ module _ (tells : Bool) (s : Settings) where
   author_then (suc n) p q old new sessions passes is =
       author_stays By passes.0 q passes.1 new sessions passes.3.steps (author_then n p passes.0 old passes.1 sessions passes.2 is)
 
-  room_stays : (p q : HeldPlan) (old new : World) (passes : List SeenPass) → StepsHeld By p old q new → HasRoomAlready p passes → HasRoomAlready q passes
-  room_stays (Read p) (Read q) old new passes steps room = tt
-  room_stays (Write p) (Write q) old new passes steps room =
+  room_stays : (pens : Pens) (p q : HeldPlan) (old new : World) (reader : Option Reader) (passes : List SeenPass) → StepsHeld By p old q new
+      → HasRoomAlready pens p reader passes → HasRoomAlready pens q reader passes
+  room_stays pens (Read p) (Read q) old new reader passes steps room =
+      let same = read_same p q old new By steps.steps.does in
+      subst (λ n. IsReaderOf pens (query_shard q.query) n reader passes) (sym same.reader)
+      (subst (λ (x : Query). IsReaderOf pens (query_shard x) p.reader reader passes) (sym same.query) room)
+  room_stays pens (Write p) (Write q) old new reader passes steps room =
       subst (λ o. HasRoomForBoth (author o) passes) (sym (write_same p q old new By steps).origin) room
-  room_stays (Read p) (Write q) old new passes steps room = absurd steps
-  room_stays (Write p) (Read q) old new passes steps room = absurd steps
+  room_stays pens (Read p) (Write q) old new reader passes steps room = absurd steps
+  room_stays pens (Write p) (Read q) old new reader passes steps room = absurd steps
 
-  room_then : (n : ℕ) (p q : HeldPlan) (old new : World) (free : List SeenPass) → PassesStages By n p old q new → HasRoomAlready p free
-      → HasRoomAlready q free
-  room_then zero p q old new free passes room = subst (λ plan. HasRoomAlready plan free) (sym passes.0) room
-  room_then (suc n) p q old new free passes room =
-      room_stays passes.0 q passes.1 new free passes.3.steps (room_then n p passes.0 old passes.1 free passes.2 room)
+  room_then : (pens : Pens) (n : ℕ) (p q : HeldPlan) (old new : World) (reader : Option Reader) (free : List SeenPass) → PassesStages By n p old q new
+      → HasRoomAlready pens p reader free → HasRoomAlready pens q reader free
+  room_then pens zero p q old new reader free passes room = subst (λ plan. HasRoomAlready pens plan reader free) (sym passes.0) room
+  room_then pens (suc n) p q old new reader free passes room =
+      room_stays pens passes.0 q passes.1 new reader free passes.3.steps (room_then pens n p passes.0 old passes.1 reader free passes.2 room)
 
-  -- a read stays one, and teaches nothing
-  read_by : (r : Reading) (q : HeldPlan) (old new : World) → StepsHeld By (Read r) old q new → (then : Reading) × (q ≡ Read then)
-  read_by r (Read then) old new steps = (then, refl)
-  read_by r (Write w) old new steps = absurd steps
+  -- a plan that did no stage has one left
+  begun_not : (p q : HeldPlan) → IsSome (next_stage p) → q ≡ p → next_stage q ≡ None → ⊥
+  begun_not p q goes same over =
+      let none : next_stage p ≡ None = subst (λ plan. next_stage plan ≡ None) same over in
+      let e : false ≡ true = subst IsSome none goes in
+      absurd (cc)
 
-  read_then : (n : ℕ) (p : Reading) (q : HeldPlan) (old new : World) → PassesStages By n (Read p) old q new → (then : Reading) × (q ≡ Read then)
-  read_then zero p q old new passes = (p, passes.0)
-  read_then (suc n) p q old new passes =
-      let so_far = read_then n p passes.0 old passes.1 passes.2 in
-      read_by so_far.0 q passes.1 new (subst (λ m. StepsHeld By m passes.1 q new) so_far.1 passes.3.steps)
-
-  pub read_learns : (p : Reading) (q : HeldPlan) (old new : World) (told : LearntEntries) (sessions : List Session) → CarriesOut By (Read p) old q new
-      → LearnsOf q told sessions sessions
-  read_learns p q old new told sessions carries =
-      subst (λ plan. LearnsOf plan told sessions sessions) (sym (read_then carries.stages p q old new carries.passes).1) refl
+  -- where a read is answered its key has come to the version
+  comes_then : (n : ℕ) (p q : HeldPlan) (old new : World) → IsSome (next_stage p) → PassesStages By n p old q new → next_stage q ≡ None
+      → ReachesEnd tells s new.keepers.told q
+  comes_then zero p q old new goes passes over = absurd (begun_not p q goes passes.0 over)
+  comes_then (suc n) p q old new goes passes over = step_reaches By passes.0 q passes.1 new passes.3.steps
 
   -- ---- what is kept
 
   reaches_then : (n : ℕ) (p q : HeldPlan) (old new : World) → HaveMasterRegions s → IsSome (next_stage p) → PassesStages By n p old q new
       → next_stage q ≡ None → HeldReaches tells s q new
-  reaches_then zero p q old new masters goes passes over =
-      let none : next_stage p ≡ None = subst (λ plan. next_stage plan ≡ None) passes.0 over in
-      let e : false ≡ true = subst IsSome none goes in
-      absurd (cc)
+  reaches_then zero p q old new masters goes passes over = absurd (begun_not p q goes passes.0 over)
   reaches_then (suc n) p q old new masters goes passes over =
       held_reaches By passes.0 q passes.1 new new.keepers.told new.fleet passes.3.steps masters passes.3.on.consistent
       passes.3.under_way
@@ -167,20 +178,28 @@ module _ (tells : Bool) (core : CoreState) (end : Nodes) (before now : KeeperSta
   is_mid : IsConsistentCore tells now.told Mid
   is_mid = stepped_core tells before.told now.told core end core.plans of on.states on.consistent on.inboxes on.arrived on.goes on.grows
 
-  pub carried_learns : (passes : List SeenPass) → sessions_of passes ≡ core.sessions → IsOfSession core.sessions plan → HasRoomAlready plan passes
-      → MayLearn after passes
-  carried_learns passes same author room =
-      may_learn tells core.settings now.told end.fleet after passes under
+  -- where a read is answered its key has come to the version
+  carried_comes : ReachesEnd tells core.settings now.told after
+  carried_comes = comes_then tells core.settings carries.stages plan after Old New goes carries.passes carries.over
+
+  pub carried_learns : (reader : Option Reader) (passes : List SeenPass) → sessions_of passes ≡ core.sessions → IsOfSession core.sessions plan
+      → HasRoomAlready (pens_of core.fleet.stores) plan reader passes → MayLearn (pens_of end.fleet.stores) after reader passes
+  carried_learns reader passes same author room =
+      let pens = pens_of end.fleet.stores in
+      may_learn tells core.settings now.told end.fleet of.masters on.consistent.stores after reader passes under
       (subst (λ xs. IsOfSession xs after) (sym same)
       (author_then tells core.settings carries.stages plan after Old New core.sessions carries.passes author))
-      (room_for after passes (room_then tells core.settings carries.stages plan after Old New passes carries.passes room))
-      (subst (All (IsSessionOf tells core.settings now.told (pens_of end.fleet.stores))) (sym same) is_mid.sessions)
+      (room_for pens after reader passes (room_then tells core.settings pens carries.stages plan after Old New reader passes carries.passes
+      (room_later (pens_of core.fleet.stores) pens plan reader passes on.goes.rise room)))
+      carried_comes
+      (subst (All (IsSessionOf tells core.settings now.told pens)) (sym same) is_mid.sessions)
 
-  pub carried_leaves : (sessions : List Session) (reply : Reply) → LearnsOf after (learnt_with reply after) core.sessions sessions
-      → LeavesCore tells before now core (record Mid { sessions = sessions })
-  carried_leaves sessions reply learns = record {
+  pub carried_leaves : (sessions : List Session) (reply : Reply) → IsOver after reply
+      → LearnsOf (pens_of end.fleet.stores) after reply core.sessions sessions → LeavesCore tells before now core (record Mid { sessions = sessions })
+  carried_leaves sessions reply over learns = record {
     is_consistent = with_sessions tells now.told Mid core.plans sessions is_mid
-        (learns_ours tells core.settings now.told end.fleet after reply core.sessions sessions of.masters on.consistent.stores under learns is_mid.sessions);
+        (learns_ours tells core.settings now.told end.fleet of.masters on.consistent.stores after reply core.sessions sessions under over carried_comes
+        learns is_mid.sessions);
     on = record { goes = on.goes; opens = opens_none tells core.settings plan after Old New of.consistent first carries };
     comes = none_come tells now.told core (record Mid { sessions = sessions }) on.states;
     grows = on.grows;
@@ -188,7 +207,7 @@ module _ (tells : Bool) (core : CoreState) (end : Nodes) (before now : KeeperSta
   }
 
   pub carried_does : (sessions : List Session) (reply : Reply) → IsOver after reply
-      → LearnsOf after (learnt_with reply after) core.sessions sessions
+      → LearnsOf (pens_of end.fleet.stores) after reply core.sessions sessions
       → DoesAtOnce tells plan (moment core before from) reply (moment (record Mid { sessions = sessions }) now to)
   carried_does sessions reply over learns = record {
     after = after;

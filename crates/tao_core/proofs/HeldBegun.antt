@@ -28,9 +28,8 @@ use Rattle.topology.specs.Choices.{chosen_follower}
 use Rattle.topology.specs.Config.{Settings}
 use Rattle.tao_core.specs.Asked.{CallCanBeDone}
 use Rattle.tao_core.specs.Core.{CoreState, IsConsistentCore, IsCoreOf, IsOfSession, IsSessionOf}
-use Rattle.tao_core.specs.HeldCalls.{BeginsAt, HasRoomAlready, HasRoomForCall, IsBegun, IsNotBegun}
+use Rattle.tao_core.specs.HeldCalls.{BeginsAt, IsBegun, IsNotBegun}
 use Rattle.tao_core.specs.HeldCalls.{begun_plan, call_session, call_shard, call_start}
-use Rattle.session_pass.specs.Passes.{SeenPass}
 use Rattle.topology.specs.States.{NodeStates}
 use Rattle.tao_core.proofs.HeldKeeping.{plans_set, set_each, with_plans}
 use Rattle.tao_core.proofs.Found.{FoundStart, found_start, open_found, session_is}
@@ -74,6 +73,7 @@ begun_under_way tells keepers core session follower (call.Write write) of is cho
   client = refl;
   begun = λ none. (refl, refl);
   committed = tt;
+  own = λ told. tt;
   spare = λ none before. tt;
   relay = λ none ahead. tt;
   job = tt;
@@ -94,12 +94,7 @@ begun_under_way tells keepers core session follower (call.Read read) of is chose
 begun_author : (s : Settings) (sessions : List Session) (session : Session) (follower : NodeName) (asked : CheckedCall)
     → is_open sessions (call_session asked) ≡ true → IsOfSession sessions (begun_plan s session follower asked)
 begun_author s sessions session follower (call.Write write) found = found
-begun_author s sessions session follower (call.Read read) found = tt
-
-begun_room : (s : Settings) (session : Session) (follower : NodeName) (asked : CheckedCall) (passes : List SeenPass) → HasRoomForCall asked passes
-    → HasRoomAlready (begun_plan s session follower asked) passes
-begun_room s session follower (call.Write write) passes room = room
-begun_room s session follower (call.Read read) passes room = tt
+begun_author s sessions session follower (call.Read read) found = found
 
 begun_first : (s : Settings) (session : Session) (follower : NodeName) (asked : CheckedCall) → OpensFirst (begun_plan s session follower asked)
 begun_first s session follower (call.Write write) = tt
@@ -195,17 +190,3 @@ is_begun s states sessions asked start follower plan begins made = record {
   chosen = begins.chosen;
   plan_is = made begins.session begins.start_is;
 }
-
--- so is the plan that is made of a call of its kind
-pub is_begun_as : (s : Settings) (states : NodeStates) (sessions : List Session) (asked kind : CheckedCall) (start : CallStart) (follower : NodeName)
-    (plan : HeldPlan) → asked ≡ kind → BeginsAt states sessions asked start follower
-    → ((session : Session) → start ≡ call_start kind session → plan ≡ begun_plan s session follower kind) → IsBegun s states sessions asked plan
-is_begun_as s states sessions asked kind start follower plan is begins made =
-    is_begun s states sessions asked start follower plan begins
-    (subst (λ x. (session : Session) → start ≡ call_start x session → plan ≡ begun_plan s session follower x) (sym is) made)
-
--- there is room for what its session learns
-pub room_begun : (s : Settings) (states : NodeStates) (sessions : List Session) (asked : CheckedCall) (plan : HeldPlan) (passes : List SeenPass)
-    → IsBegun s states sessions asked plan → HasRoomForCall asked passes → HasRoomAlready plan passes
-room_begun s states sessions asked plan passes begun room =
-    subst (λ p. HasRoomAlready p passes) (sym begun.plan_is) (begun_room s begun.session begun.follower asked passes room)

@@ -7,7 +7,7 @@ use Rattle.core_model.specs.Consistent.{GoesOn, IsConsistent}
 use Rattle.core_model.specs.Fleet.{Fleet, HasAsk}
 use Rattle.core_model.specs.Stores.{HaveMasterRegions}
 use Rattle.core_model.specs.Growing.{StoresGrow}
-use Rattle.core_model.specs.Pens.{pens_of}
+use Rattle.core_model.specs.Pens.{Pens, pens_of}
 use Rattle.core_model.proofs.Places.{one_some}
 use Rattle.core_nodes.specs.Settling.{IsLaterLink}
 use Rattle.core_plans.specs.Held.{
@@ -22,7 +22,6 @@ use Rattle.core_plans.specs.Held.{
   TakesPlan,
   next_stage,
   plan_at,
-  learnt_with,
 }
 use Rattle.core_plans.specs.declared.held.HeldPlan.{HeldPlan}
 use Rattle.core_plans.specs.declared.held.HeldPlan.TheVariants.{Read, Write}
@@ -48,8 +47,9 @@ use Rattle.words.specs.declared.PlanWord.{PlanWord}
 use Rattle.tao_core.specs.Calls.{world_at, world_of}
 use Rattle.tao_core.specs.Core.{CoreState, IsConsistentCore, IsCoreOf, IsOfSession, IsSessionOf, Moment, moment}
 use Rattle.tao_core.specs.HeldCalls.{AdvancesPlan, DoesStage, EndsPlan, Leaves, LearnsOf, StepsAt, held_seen, held_in, next_at, numbered_plan}
-use Rattle.tao_core.proofs.HeldLearning.{author_advances, learns_ours, of_session_still}
+use Rattle.tao_core.proofs.HeldLearning.{advance_comes, author_advances, learns_ours, of_session_still}
 use Rattle.tao_core.proofs.HeldSteps.{MayHold, StepsAsks, advance_asks, held_after, kept}
+use Rattle.tao_core.proofs.LearningReads.{ReachesEnd}
 use Rattle.tao_core.proofs.Reaching.{advance_reaches}
 use Rattle.tao_core.proofs.NamesOnce.{stand_alone}
 use Rattle.tao_core.proofs.Told.{sessions_later}
@@ -215,6 +215,13 @@ module _ (tells : Bool) (number : ℕ) (old mid : Moment) (does : DoesStage tell
   next_is : next_at mid.core.plans number ≡ next_stage After
   next_is = ap (option_and_then next_stage) at_after
 
+  -- the version that it answers has come to the log, where it answers any
+  comes_after : ReachesEnd tells old.core.settings mid.keepers.told After
+  comes_after = advance_comes (rules_of tells old.core.settings) does.steps.before After (world_of old) (world_of mid) does.steps.steps
+
+  pub comes_there : (plan : HeldPlan) → plan_at mid.core.plans number ≡ Some plan → ReachesEnd tells old.core.settings mid.keepers.told plan
+  comes_there plan there = subst (ReachesEnd tells old.core.settings mid.keepers.told) (one_some After plan (sym at_after ∙ there)) comes_after
+
   module _ (of : IsCoreOf tells old.keepers.told old.core) where
     asks_of : StepsAsks (Some does.steps.before) (held_after After) old.core.fleet.followers mid.core.fleet.followers
     asks_of =
@@ -272,13 +279,16 @@ module _ (tells : Bool) (number : ℕ) (old mid : Moment) (does : DoesStage tell
 
   -- ---- it is over, and was taken out
 
+  abbrev NewPens : Pens
+  NewPens = pens_of mid.core.fleet.stores
+
   module _ (later : Plans) (sessions : List Session) (reply : Reply) (over : next_at mid.core.plans number ≡ None)
       (ends : IfSome (plan_at mid.core.plans number)
-      (λ plan. EndsPlan number plan (held_seen mid.core.plans old.core.sessions) reply (held_seen later sessions))) where
-    ends_after : EndsPlan number After (held_seen mid.core.plans old.core.sessions) reply (held_seen later sessions)
+      (λ plan. EndsPlan number plan (held_seen mid.core.plans old.core.sessions NewPens) reply (held_seen later sessions NewPens))) where
+    ends_after : EndsPlan number After (held_seen mid.core.plans old.core.sessions NewPens) reply (held_seen later sessions NewPens)
     ends_after =
-        if_some_at (λ plan. EndsPlan number plan (held_seen mid.core.plans old.core.sessions) reply (held_seen later sessions)) (plan_at mid.core.plans number)
-        After ends at_after
+        if_some_at (λ plan. EndsPlan number plan (held_seen mid.core.plans old.core.sessions NewPens) reply (held_seen later sessions NewPens))
+        (plan_at mid.core.plans number) After ends at_after
 
     gone : (other : ℕ) → plan_at later other ≡ (if other == number then None else plan_at old.core.plans other)
     gone other = elim (cases_Bool (other == number)) [
@@ -295,28 +305,33 @@ module _ (tells : Bool) (number : ℕ) (old mid : Moment) (does : DoesStage tell
     is_over : next_stage After ≡ None
     is_over = sym next_is ∙ over
 
-    pub ends_here : EndsPlan number After (held_in old.core) reply (held_seen later sessions)
+    pub ends_here : EndsPlan number After (held_in old.core) reply (held_seen later sessions NewPens)
     ends_here = record { ended = ends_after.ended; over = ends_after.over; told = ends_after.told; takes = takes; learns = ends_after.learns }
+
+    -- the session that learnt of it is one of the core, as all others
+    learnt_core : IsConsistentCore tells mid.keepers.told mid.core → mid.core.settings ≡ old.core.settings → mid.core.sessions ≡ old.core.sessions
+        → IfSome (plan_at mid.core.plans number) (IsUnderWay tells old.core.settings mid.keepers.told mid.core.fleet)
+        → All (IsSessionOf tells mid.core.settings mid.keepers.told NewPens) sessions
+    learnt_core is own same under =
+        let here = if_some_at (IsUnderWay tells old.core.settings mid.keepers.told mid.core.fleet) (plan_at mid.core.plans number) After under at_after in
+        learns_ours tells mid.core.settings mid.keepers.told mid.core.fleet is.masters is.consistent.stores After ends_after.ended mid.core.sessions sessions
+        (subst (λ s. IsUnderWay tells s mid.keepers.told mid.core.fleet After) (sym own) here) ends_after.over
+        (subst (λ s. ReachesEnd tells s mid.keepers.told After) (sym own) comes_after)
+        (subst (λ xs. LearnsOf NewPens After ends_after.ended xs sessions) (sym same) ends_after.learns) is.sessions
 
     pub ends_core : (of : IsCoreOf tells old.keepers.told old.core) → IsConsistentCore tells mid.keepers.told mid.core
         → mid.core.settings ≡ old.core.settings → mid.core.sessions ≡ old.core.sessions → GoesOn old.core.fleet mid.core.fleet
         → StoresGrow tells old.core.settings old.keepers.told mid.keepers.told
         → IfSome (plan_at mid.core.plans number) (IsUnderWay tells old.core.settings mid.keepers.told mid.core.fleet)
         → IsCoreOf tells mid.keepers.told (record mid.core { plans = later; sessions = sessions })
-    ends_core of is own same goes grows under =
-        let here = if_some_at (IsUnderWay tells old.core.settings mid.keepers.told mid.core.fleet) (plan_at mid.core.plans number) After under at_after in
-        record {
-          is_consistent = with_sessions tells mid.keepers.told mid.core later sessions is
-              (learns_ours tells mid.core.settings mid.keepers.told mid.core.fleet After ends_after.ended mid.core.sessions sessions is.masters
-              is.consistent.stores
-              (subst (λ s. IsUnderWay tells s mid.keepers.told mid.core.fleet After) (sym own) here)
-              (subst (λ xs. LearnsOf After (learnt_with ends_after.ended After) xs sessions) (sym same) ends_after.learns) is.sessions);
-          plans = subst (λ s. ArePlansOf tells s mid.keepers.told mid.core.fleet later) (sym own)
-              (held_then of None later mid.keepers.told is_over gone goes grows (consistent_here is own) under);
-          authors = set_each number None mid.core.plans later (IsOfSession sessions) ends_after.takes.sets (λ one is. absurd (cc))
-              (λ other plan there. of_session_still After (learnt_with ends_after.ended After) old.core.sessions sessions plan ends_after.learns
-              (author_held of old.core.sessions refl other plan there));
-        }
+    ends_core of is own same goes grows under = record {
+      is_consistent = with_sessions tells mid.keepers.told mid.core later sessions is (learnt_core is own same under);
+      plans = subst (λ s. ArePlansOf tells s mid.keepers.told mid.core.fleet later) (sym own)
+          (held_then of None later mid.keepers.told is_over gone goes grows (consistent_here is own) under);
+      authors = set_each number None mid.core.plans later (IsOfSession sessions) ends_after.takes.sets (λ one is. absurd (cc))
+          (λ other plan there. of_session_still NewPens After ends_after.ended old.core.sessions sessions plan ends_after.learns
+          (author_held of old.core.sessions refl other plan there));
+    }
 
   -- ---- what is replied
 
@@ -331,7 +346,8 @@ module _ (tells : Bool) (number : ℕ) (old mid : Moment) (does : DoesStage tell
     stands = does.steps.stands;
     steps = does.steps.steps;
     reaches = does.reaches;
-    leaves = subst (λ n. Leaves asked (numbered_plan number After) n (held_in old.core) reply (held_seen mid.core.plans sessions)) (sym next ∙ next_is)
+    leaves = subst (λ n. Leaves asked (numbered_plan number After) n (held_in old.core) reply (held_seen mid.core.plans sessions NewPens))
+        (sym next ∙ next_is)
         (record { told = told; changes = does.steps.changes; sessions = same });
     link = does.link;
     rest = ap (λ (x : CoreState). record x { sessions = sessions }) rest;
@@ -339,7 +355,8 @@ module _ (tells : Bool) (number : ℕ) (old mid : Moment) (does : DoesStage tell
 
   -- or over, and was taken out
   pub end_steps : (asked : PlanWord) (later : Plans) (sessions : List Session) (reply : Reply) → next_at mid.core.plans number ≡ None
-      → IfSome (plan_at mid.core.plans number) (λ plan. EndsPlan number plan (held_seen mid.core.plans old.core.sessions) reply (held_seen later sessions))
+      → IfSome (plan_at mid.core.plans number)
+      (λ plan. EndsPlan number plan (held_seen mid.core.plans old.core.sessions NewPens) reply (held_seen later sessions NewPens))
       → mid.core ≡ record old.core { fleet = mid.core.fleet; mail = mid.core.mail; plans = mid.core.plans }
       → StepsAt tells asked number old reply (record mid { core = record mid.core { plans = later; sessions = sessions } })
   end_steps asked later sessions reply over ends rest = record {
@@ -348,7 +365,7 @@ module _ (tells : Bool) (number : ℕ) (old mid : Moment) (does : DoesStage tell
     stands = does.steps.stands;
     steps = does.steps.steps;
     reaches = does.reaches;
-    leaves = subst (λ n. Leaves asked (numbered_plan number After) n (held_in old.core) reply (held_seen later sessions)) (sym over ∙ next_is)
+    leaves = subst (λ n. Leaves asked (numbered_plan number After) n (held_in old.core) reply (held_seen later sessions NewPens)) (sym over ∙ next_is)
         (ends_here later sessions reply over ends);
     link = does.link;
     rest = ap (λ (x : CoreState). record x { plans = later; sessions = sessions }) rest;

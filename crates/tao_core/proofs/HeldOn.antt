@@ -1,5 +1,6 @@
 -- What is held goes on, whatever else is done.
 use Rattle.std.proofs.Common.{◌≡◌, ℕ, Bool, List, Option, Some, true, refl, ap, sym, subst}
+use Rattle.std.proofs.lemmas.Option.{IfSome_then}
 use Rattle.core_model.specs.Consistent.{IsConsistent}
 use Rattle.core_model.specs.Evictions.{ChangesCache, Evicts}
 use Rattle.core_model.specs.Fleet.{Fleet}
@@ -54,9 +55,9 @@ plans_later tells s before later f g plans on grows consistent are = record {
   asks = asks_still_held plans f.followers g.followers on.opens are.asks;
 }
 
--- a write of an open session is still one
+-- a call of an open session is still one
 pub still_of : (old new : List Session) (plan : HeldPlan) → StayOpen old new → IsOfSession old plan → IsOfSession new plan
-still_of old new (Read p) stay is = tt
+still_of old new (Read p) stay is = IfSome_then p.reader is stay.stays
 still_of old new (Write p) stay is = stay.stays (author p.origin) is
 
 -- a call that leaves sessions open and plans as they are leaves a core that may be used

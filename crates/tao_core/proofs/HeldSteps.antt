@@ -1,16 +1,16 @@
 -- What the stage of a held plan does to the asks that are open.
 use Rattle.std.proofs.Common.{◌≡◌, ◌⊎◌, ℕ, Bool, true, false, Option, Some, None, Ok, refl, ap, sym, ◌∙◌, subst, inl, inr, arith}
-use Rattle.std.specs.Prelude.{⊤, slice_get, slice_set, IsSome}
+use Rattle.std.specs.Prelude.{⊤, slice_get, slice_set}
 use Rattle.cache_items.specs.declared.look.Look.{Look}
 use Rattle.cache_items.specs.declared.look.Look.TheVariants.{Hit, Miss}
 use Rattle.cache_items.specs.Node.{Node}
 use Rattle.core_model.specs.Fleet.{ChangesNode, Fleet, HasAsk, named}
 use Rattle.core_model.specs.Reads.{AfterLook, AsksAtOnce, EndsAsk, KeepsFill, LooksFirst, taken_fill, Wanted}
 use Rattle.core_model.proofs.Places.{get_set, one_some}
-use Rattle.core_plans.specs.Held.{HasNoneAt, HoldsAsk, IsOpenAt, OpensFirst, OpensNone, StepsHeld, is_open_ask, next_stage, given_up, learner}
+use Rattle.core_plans.specs.Held.{GivesUp, HasNoneAt, HoldsAsk, IsOpenAt, OpensFirst, OpensNone, StepsHeld, is_open_ask, next_stage}
 use Rattle.core_plans.specs.HeldLaws.{Followers}
-use Rattle.core_plans.specs.HeldReads.{ComesOfRead, DoesLook, DoesReadStage, DoesKeep, EndsItsAsk, read_is_down, wanted_by}
-use Rattle.core_plans.specs.HeldWrites.{ComesOfWrite, CommitsBy, DoesWriteStage, IsBefore, way_given_up, write_is_down}
+use Rattle.core_plans.specs.HeldReads.{ComesOfRead, DoesLook, DoesReadStage, DoesKeep, EndsItsAsk, EndsRead, read_has_no_room, read_is_down, wanted_by}
+use Rattle.core_plans.specs.HeldWrites.{ComesOfWrite, CommitsBy, DoesWriteStage, IsBefore, write_is_down}
 use Rattle.core_plans.specs.Needs.{asked_of_read, leaders_of_write}
 use Rattle.core_plans.specs.declared.leaders.Leaders.{Leaders}
 use Rattle.core_plans.proofs.StageLemmas.{ended_down, ended_read}
@@ -317,15 +317,18 @@ module _ (rules : Rules) (p q : Reading) (old new : World) (alone : StandAlone o
   read_asks (Keeping given) at none does = over_given given at does
   read_asks (Ended end) at none does = absurd does
 
-  -- also where a node is down that the stage needs
-  comes_asks : HasNoneAt p.at p.ask → ComesOfRead rules p old q new → Asks q
-  comes_asks none (inl next) = read_asks p.at refl none next.does
-  comes_asks none (inr ends) =
-      let reply = read_is_down ends.node in
+  -- also where it ends in place of the stage
+  over_asks : (reply : Reply) → EndsRead reply p old q new → Asks q
+  over_asks reply ends =
       let r : Reading = taken (read_refused (stage_of p.at) reply) 0 false p in
       let over : held_after (Read r) ≡ None = ap (λ a. kept (stage_named (stage_of a)) (Read r)) (ended_read (stage_of p.at) reply p 0 false) in
       subst Asks (sym ends.then)
       (subst (λ held. StepsAsks (Some (Read p)) held old.fleet.followers new.fleet.followers) (sym over) (ended ends.ends))
+
+  -- as it does where a node is down that the stage needs
+  comes_asks : HasNoneAt p.at p.ask → ComesOfRead rules p old q new → Asks q
+  comes_asks none (inl next) = read_asks p.at refl none next.does
+  comes_asks none (inr ends) = over_asks (read_is_down ends.node) ends.over
 
 -- ---- the stages of a write
 
@@ -373,19 +376,18 @@ steps_asks rules (Write p) (Write q) old new alone first steps =
 steps_asks rules (Read p) (Write q) old new alone first steps = absurd steps
 steps_asks rules (Write p) (Read q) old new alone first steps = absurd steps
 
--- a write that ends without its last stage opens none
-given_asks : (before : HeldPlan) (old new : World) → OpensFirst before → IsSome (learner before) → new ≡ old
-    → StepsAsks (Some before) (held_after (given_up before)) old.fleet.followers new.fleet.followers
-given_asks (Read p) old new first last same = absurd (cc)
-given_asks (Write p) old new first last same =
-    let q = way_given_up p in
+-- a plan that ends in place of a stage: of a read its ask ends, and a write opens none
+given_asks : (rules : Rules) (before after : HeldPlan) (old new : World) → StandAlone old.fleet.followers → OpensFirst before → GivesUp before old after new
+    → StepsAsks (Some before) (held_after after) old.fleet.followers new.fleet.followers
+given_asks rules (Read p) (Read q) old new alone first gives = over_asks rules p q old new alone read_has_no_room gives
+given_asks rules (Write p) (Write q) old new alone first gives =
     holds_none (Some (Write p)) (held_after (Write q)) old.fleet.followers new.fleet.followers
-    (same_opens_none old.fleet.followers new.fleet.followers (ap (λ (x : World). x.fleet.followers) same)) (λ name number h. h)
-    (λ name number h. kept_holds (next_stage (Write q)) (Write q) name number h) (same_back p q refl first)
+    (same_opens_none old.fleet.followers new.fleet.followers (ap (λ (x : World). x.fleet.followers) gives.1)) (λ name number h. h)
+    (λ name number h. kept_holds (next_stage (Write q)) (Write q) name number h) (same_back p q (ap (λ (x : Writing). x.back) gives.0) first)
+given_asks rules (Read p) (Write q) old new alone first gives = absurd gives
+given_asks rules (Write p) (Read q) old new alone first gives = absurd gives
 
 pub advance_asks : (rules : Rules) (before after : HeldPlan) (old new : World) → StandAlone old.fleet.followers → OpensFirst before
     → Advances rules before old after new → StepsAsks (Some before) (held_after after) old.fleet.followers new.fleet.followers
 advance_asks rules before after old new alone first (inl steps) = steps_asks rules before after old new alone first steps
-advance_asks rules before after old new alone first (inr ends) =
-    subst (λ plan. StepsAsks (Some before) (held_after plan) old.fleet.followers new.fleet.followers) (sym ends.then)
-    (given_asks before old new first ends.last ends.same)
+advance_asks rules before after old new alone first (inr ends) = given_asks rules before after old new alone first ends.gives

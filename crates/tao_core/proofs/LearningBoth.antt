@@ -19,7 +19,7 @@ use Rattle.topology.specs.Config.{Settings}
 use Rattle.tao_core.specs.Calls.{LearnsBoth, LearnsThrough}
 use Rattle.tao_core.specs.Core.{IsSessionOf}
 use Rattle.tao_core.specs.HeldCalls.{MayLearnBoth, MayLearnNow, MayLearnOne, MayLearnThrough}
-use Rattle.tao_core.proofs.Learning.{learnt_open, learnt_sessions, same_number}
+use Rattle.tao_core.proofs.Learning.{learnt_sessions, same_number, set_open}
 use Rattle.tao_core.proofs.Found.{session_is}
 
 -- ---- one entry is learnt, and what may be learnt after it
@@ -77,7 +77,7 @@ learnt_still number (Some one) old new t learns may = record {
 pub learning_open : (number : ℕ) (told : Option LearntEntry) (old new : List Session) → LearnsThrough number told old new → (n : ℕ)
     → is_open new n ≡ is_open old n
 learning_open number None old new learns n = ap (λ xs. is_open xs n) learns
-learning_open number (Some t) old new learns n = learnt_open number t.shard t.entry t.note old new learns n
+learning_open number (Some t) old new learns n = set_open learns.to old new learns.is n
 
 pub both_open : (number : ℕ) (told : LearntEntries) (old new : List Session) → LearnsBoth number told old new → (n : ℕ) → is_open new n ≡ is_open old n
 both_open number told old new learns n =
@@ -119,7 +119,7 @@ pub record AreLearntOf (s : Settings) (stores : List Store) (told : LearntEntrie
   pub here : IfSome told.here (IsLearntOf s stores)
   pub other : IfSome told.other (IsLearntOf s stores)
 
-own_note : (pens : Pens) (count shard : ℕ) (note : View) (notes : List View) → shard < count → AreFirstNotes pens count notes → IsSeen pens shard note
+pub own_note : (pens : Pens) (count shard : ℕ) (note : View) (notes : List View) → shard < count → AreFirstNotes pens count notes → IsSeen pens shard note
     → IsNoteOf shard note notes
 own_note pens count shard note notes here are seen =
     let long = are.long in
@@ -160,7 +160,7 @@ module _ (tells : Bool) (s : Settings) (tables : Tables) (stores : List Store) w
       → LearnsThrough number told old new → AreOurs old → AreOurs new
   learnt_ours number None old new masters kept are learns all = subst AreOurs (sym learns) all
   learnt_ours number (Some t) old new masters kept are learns all =
-      learnt_sessions tells s tables stores number t.shard t.entry t.note masters kept are.0 are.1.seen are.1.stands old new learns all
+      learnt_sessions tells s tables stores masters kept number t.shard t.entry t.note are.0 are.1.seen are.1.stands old new learns all
 
   pub both_ours : (number : ℕ) (told : LearntEntries) (old new : List Session) → HaveMasterRegions s → AreStoresOf tells s tables stores
       → AreLearntOf s stores told

@@ -21,6 +21,7 @@ pub mod Streamed
 pub mod Told
 pub mod Learning
 pub mod LearningBoth
+pub mod LearningReads
 pub mod Ways
 pub mod WriteStages
 pub mod AtOnce
@@ -28,3 +29,4 @@ pub mod SettledReads
 pub mod NotBegun
 pub mod AnsweredAtOnce
 mod HealthLemmas
+pub mod OpenedLemmas

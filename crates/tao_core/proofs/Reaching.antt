@@ -14,7 +14,9 @@ use Rattle.core_model.specs.Consistent.{IsConsistent, IsNodeOf}
 use Rattle.core_model.specs.Fleet.{Fleet, IsFirstAt, named}
 use Rattle.core_model.specs.Pens.{Pens, pens_of}
 use Rattle.core_model.specs.Stores.{HaveMasterRegions, master_log}
-use Rattle.core_plans.specs.Held.{IsUnderWay, StepsHeld, given_up, learner}
+use Rattle.core_plans.specs.Held.{GivesUp, IsUnderWay, StepsHeld}
+use Rattle.core_plans.proofs.ReadRefusals.{over_refused}
+use Rattle.core_plans.specs.HeldReads.{EndsRead, read_has_no_room}
 use Rattle.core_plans.specs.declared.held.HeldPlan.{HeldPlan}
 use Rattle.core_plans.specs.declared.held.HeldPlan.TheVariants as held
 use Rattle.core_plans.specs.LedBy.{Rules}
@@ -22,6 +24,15 @@ use Rattle.core_steps.specs.World.{World}
 use Rattle.follower_cache.specs.Seen.{FollowerState}
 use Rattle.graph_model.specs.Log.{version}
 use Rattle.node_name.specs.declared.NodeName.{NodeName}
+use Rattle.read_plan.specs.Ends.{EndsAt, EndsWith}
+use Rattle.read_plan.specs.Readings.{Reading}
+use Rattle.read_plan.specs.declared.end.ReadEnd.TheVariants as ended
+use Rattle.read_plan.specs.declared.standing.Standing.TheVariants.{Ended}
+use Rattle.replies.specs.declared.calls.CallReply.TheVariants as called
+use Rattle.replies.specs.declared.calls.ReadReply.{ReadReply}
+use Rattle.replies.specs.declared.refusals.Refusal.{Refusal}
+use Rattle.replies.specs.declared.refusals.Refusal.TheVariants.{Memory}
+use Rattle.replies.specs.declared.reply.Reply.TheVariants.{Called, Refused}
 use Rattle.sealed_item.specs.Decided.{content_answer, content_decides}
 use Rattle.served_shards.specs.Served.{ServedShard, low_at, served_at}
 use Rattle.tao_base.specs.EdgeTypes.{EdgeTypes}
@@ -107,10 +118,25 @@ held_reaches rules (held.Write p) (held.Write q) old new tables f steps masters 
 held_reaches rules (held.Read p) (held.Write q) old new tables f steps masters consistent under = tt
 held_reaches rules (held.Write p) (held.Read q) old new tables f steps masters consistent under = absurd steps
 
--- a write that ends without its last stage says nothing of what is kept
-given_reaches : (tells : Bool) (s : Settings) (before : HeldPlan) (new : World) → IsSome (learner before) → HeldReaches tells s (given_up before) new
-given_reaches tells s (held.Read p) new last = absurd (cc)
-given_reaches tells s (held.Write p) new last = tt
+-- ---- a plan that ends in place of a stage
+
+-- a read that was refused gives no answer
+refused_answers_none : (q : Reading) (refusal : Refusal) (reply : ReadReply) → q.at ≡ Ended (ended.Refused (Refused refusal))
+    → EndsWith q (Called (called.Read reply)) → ⊥
+refused_answers_none q refusal reply at ends =
+    let none : Called (called.Read reply) ≡ Refused refusal = subst (λ x. EndsAt x q (Called (called.Read reply))) at ends in
+    absurd (cc)
+
+-- nor one that was given up
+pub given_answers_none : (p q : Reading) (old new : World) → EndsRead read_has_no_room p old q new → (reply : ReadReply)
+    → EndsWith q (Called (called.Read reply)) → ⊥
+given_answers_none p q old new gives reply ends = refused_answers_none q (Memory 0) reply (over_refused read_has_no_room p q old new gives) ends
+
+-- so it says nothing of what is kept
+given_reaches : (tells : Bool) (s : Settings) (before after : HeldPlan) (old new : World) → GivesUp before old after new → HeldReaches tells s after new
+given_reaches tells s (held.Read p) (held.Read q) old new gives = λ reply ends. absurd (given_answers_none p q old new gives reply ends)
+given_reaches tells s before (held.Write q) old new gives = tt
+given_reaches tells s (held.Write p) (held.Read q) old new gives = absurd gives
 
 pub advance_reaches : (rules : Rules) (before after : HeldPlan) (old new : World) (tables : Tables) (f : Fleet) → Advances rules before old after new
     → HaveMasterRegions rules.settings → IsConsistent rules.tells rules.settings new.keepers.told new.fleet
@@ -118,4 +144,4 @@ pub advance_reaches : (rules : Rules) (before after : HeldPlan) (old new : World
 advance_reaches rules before after old new tables f (inl steps) masters consistent under =
     held_reaches rules before after old new tables f steps masters consistent under
 advance_reaches rules before after old new tables f (inr ends) masters consistent under =
-    subst (λ plan. HeldReaches rules.tells rules.settings plan new) (sym ends.then) (given_reaches rules.tells rules.settings before new ends.last)
+    given_reaches rules.tells rules.settings before after old new ends.gives

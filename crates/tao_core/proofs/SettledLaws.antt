@@ -8,12 +8,13 @@ use Rattle.core_model.specs.Stores.{AreWhole}
 use Rattle.core_nodes.proofs.CaughtUp.{nodes_catch_up}
 use Rattle.core_nodes.proofs.GrowingLemmas.{stays_stores}
 use Rattle.core_plans.proofs.WholeStages.{stages_miss_nothing}
-use Rattle.core_plans.specs.Held.{StepsHeld, given_up, learner}
+use Rattle.core_plans.specs.Held.{GivesUp, StepsHeld}
 use Rattle.core_plans.specs.LedBy.{rules_of}
 use Rattle.core_plans.specs.declared.held.HeldPlan.TheVariants as of
 use Rattle.core_plans.specs.declared.held.HeldPlan.{HeldPlan}
-use Rattle.core_plans.specs.HeldReads.{at_bound}
-use Rattle.read_plan.specs.Readings.{Reading, new_reading}
+use Rattle.core_plans.proofs.ReadRefusals.{over_refused}
+use Rattle.core_plans.specs.HeldReads.{HasComeTo, at_bound, read_has_no_room, version_now}
+use Rattle.read_plan.specs.Readings.{Reading, new_reading, read_by}
 use Rattle.request_check.specs.declared.checked.CheckedCall.TheVariants as checked_call
 use Rattle.replies.specs.declared.calls.CallReply.TheVariants as called
 use Rattle.replies.specs.declared.calls.ReadReply.{ReadReply}
@@ -24,7 +25,6 @@ use Rattle.tao_core.specs.HeldCalls.{AnswersCall, DoesAtOnce, call_floor, Advanc
 use Rattle.tao_core.proofs.SettledReads.{read_last}
 use Rattle.tao_core.specs.Core.{ComeUp, IsConsistentCore, IsCoreOf, Moment}
 use Rattle.tao_core.specs.Laws.{IsSettled, MissesNoMore, SettledUntilACommit, last_version}
-use Rattle.std.specs.Prelude.{IsSome}
 
 -- ---- reads
 
@@ -34,8 +34,8 @@ reads_last old new call reply are settled (inr refuses) = absurd refuses.refused
 reads_last old new call reply are settled (inl goes) =
     let core = old.core in
     let session = goes.begun.session in
-    let p : Reading = at_bound core.settings
-    (new_reading call.query session.region session.tier (call_floor session (checked_call.Read call)) call.critical goes.begun.follower) in
+    let p : Reading = read_by call.session (at_bound core.settings
+    (new_reading call.query session.region session.tier (call_floor session (checked_call.Read call)) call.critical goes.begun.follower)) in
     let does = subst (λ plan. DoesAtOnce true plan old (Called (called.Read reply)) new) goes.begun.plan_is goes.does in
     read_last core.settings p (world_of old) are.masters does.carries.stages does.after (world_of new) reply refl are.consistent settled
     does.carries.passes does.over
@@ -53,16 +53,17 @@ stage_whole (of.Read p) (of.Write q) old new are settled steps = tt
 stage_whole (of.Write p) (of.Read q) old new are settled steps = tt
 stage_whole (of.Write p) (of.Write q) old new are settled steps = tt
 
--- nor does one that ends without its last stage
-given_whole : (before : HeldPlan) (old new : Moment) → IsSome (learner before) → MissesNoMore before old (given_up before) new
-given_whole (of.Read p) old new last = absurd (cc)
-given_whole (of.Write p) old new last = tt
+-- a read that was given up has no answer, which may miss anything
+given_whole : (before after : HeldPlan) (old new : Moment) → GivesUp before (world_of old) after (world_of new) → MissesNoMore before old after new
+given_whole (of.Read p) (of.Read q) old new gives = λ least come.
+    subst (HasComeTo least (version_now old.core.settings q new.keepers)) (sym (over_refused read_has_no_room p q (world_of old) (world_of new) gives)) tt
+given_whole (of.Read p) (of.Write q) old new gives = tt
+given_whole (of.Write p) after old new gives = tt
 
 advance_whole : (before after : HeldPlan) (old new : Moment) → IsCoreOf true old.keepers.told old.core → IsSettled old
     → Advances (rules_of true old.core.settings) before (world_of old) after (world_of new) → MissesNoMore before old after new
 advance_whole before after old new are settled (inl steps) = stage_whole before after old new are settled steps
-advance_whole before after old new are settled (inr ends) =
-    subst (λ plan. MissesNoMore before old plan new) (sym ends.then) (given_whole before old new ends.last)
+advance_whole before after old new are settled (inr ends) = given_whole before after old new ends.gives
 
 -- ---- settled
 

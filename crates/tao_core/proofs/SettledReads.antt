@@ -6,11 +6,11 @@ use Rattle.core_model.specs.States.{AreSettled, nodes_now}
 use Rattle.core_model.specs.Stores.{HaveMasterRegions, master_log, master_store}
 use Rattle.core_nodes.proofs.GrowingLemmas.{stays_stores}
 use Rattle.core_plans.proofs.InTurn.{IsSameRead, read_same}
-use Rattle.core_plans.proofs.ReadRefusals.{NeverCalled, stage_never}
+use Rattle.core_plans.proofs.ReadEndings.{same_read}
+use Rattle.core_plans.proofs.ReadRefusals.{NeverCalled, read_never}
 use Rattle.core_plans.proofs.WholeStages.{stages_miss_nothing}
 use Rattle.core_plans.specs.Held.{IsOver}
-use Rattle.core_plans.proofs.StageLemmas.{ended_read}
-use Rattle.core_plans.specs.HeldReads.{ComesOfRead, HasComeTo, read_is_down, version_now}
+use Rattle.core_plans.specs.HeldReads.{HasComeTo, version_now}
 use Rattle.core_plans.specs.LedBy.{Rules, rules_of}
 use Rattle.core_plans.specs.WholeCalls.{PassesStage, PassesStages}
 use Rattle.core_plans.specs.declared.held.HeldPlan.{HeldPlan}
@@ -20,7 +20,6 @@ use Rattle.graph_model.proofs.Exact.{version_take}
 use Rattle.graph_model.specs.Log.{version}
 use Rattle.read_plan.specs.Ends.{EndsAt}
 use Rattle.read_plan.specs.Readings.{Reading}
-use Rattle.read_plan.specs.Standings.{stage_of}
 use Rattle.read_plan.specs.declared.end.ReadEnd.TheVariants as ended
 use Rattle.read_plan.specs.declared.standing.Standing.{Standing}
 use Rattle.read_plan.specs.declared.standing.Standing.TheVariants.{Looking, Asking, Mastering, Keeping, Ended}
@@ -77,17 +76,10 @@ module _ (s : Settings) (p : Reading) (old : World) (masters : HaveMasterRegions
       let steps = stage.steps in
       let stays : Stays x.keepers.told y.keepers.told = steps.tables refl in
       let grows = stays_stores true s x.keepers y.keepers steps.tables in
-      let next = read_same q r x y By steps.steps.does in
       record {
         q = r;
         is = refl;
-        same = record {
-          query = next.query ∙ same.query;
-          region = next.region ∙ same.region;
-          floor = next.floor ∙ same.floor;
-          critical = next.critical ∙ same.critical;
-          follower = next.follower ∙ same.follower;
-        };
+        same = same_read p q r same (read_same q r x y By steps.steps.does);
         tables = λ at. stays at ∙ tables at;
         are = stage.on.consistent;
         settled = (settled_stays s x.keepers.told y.keepers.told (nodes_now x.fleet x.states) (nodes_now y.fleet y.states)).stay
@@ -109,7 +101,7 @@ module _ (s : Settings) (p : Reading) (old : World) (masters : HaveMasterRegions
       subst (ComesSoFar s p old plan) (sym passes.1) (record {
         q = p;
         is = passes.0;
-        same = record { query = refl; region = refl; floor = refl; critical = refl; follower = refl };
+        same = record { query = refl; region = refl; floor = refl; critical = refl; follower = refl; reader = refl };
         tables = λ at. refl;
         are = are;
         settled = settled;
@@ -119,13 +111,6 @@ module _ (s : Settings) (p : Reading) (old : World) (masters : HaveMasterRegions
       let so = comes_then n passes.0 passes.1 are settled come passes.2 in
       comes_by so.q plan passes.1 now so.same so.tables so.are so.settled so.come
       (subst (λ m. PassesStage By m passes.1 plan now) so.is passes.3)
-
-  -- a read that is refused gives no answer, also where a node is down that its stage needs
-  never_comes : (q r : Reading) (x y : World) → ComesOfRead By q x r y → NeverCalled r.at
-  never_comes q r x y (inl next) = stage_never By q.at q r x y refl next.does
-  never_comes q r x y (inr ends) =
-      subst (λ (one : Reading). NeverCalled one.at) (sym ends.then)
-      (subst NeverCalled (sym (ended_read (stage_of q.at) (read_is_down ends.node) q 0 false)) (λ reply answered at is. absurd (cc)))
 
   last_by : (q : Reading) (plan : HeldPlan) (x y : World) (reply : ReadReply) → IsSameRead p q → Stays old.keepers.told x.keepers.told
       → IsConsistent true s x.keepers.told x.fleet → AreSettled s x.keepers.told (nodes_now x.fleet x.states)
@@ -137,7 +122,7 @@ module _ (s : Settings) (p : Reading) (old : World) (masters : HaveMasterRegions
       let log = master_log s y.keepers.told (query_shard r.query) in
       let key = query_key r.query in
       let legal = (steps.legal reply over).0 refl in
-      let never = never_comes q r x y steps.does in
+      let never = read_never By q r x y steps.does in
       let here : on.q ≡ r = read_one on.q r (sym on.is) in
       let come = subst (λ (x : Reading). HasComeTo (version_now s p old.keepers) (version_now s x y.keepers) x.at) here on.come in
       let least : version_now s p old.keepers ≤ reply.version = ended_version r.at r reply _ _ refl never over come in

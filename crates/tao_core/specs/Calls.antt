@@ -2,22 +2,26 @@
 use Rattle.std.specs.Prelude.{ℕ, ◌≡◌, ◌≤◌, ⊤, Bool, List, Option, Some, None, slice_get, take}
 use Rattle.std.specs.Option.{option_map}
 use Rattle.core_model.specs.Fleet.{IsFirstAt, named}
+use Rattle.core_model.specs.Pens.{Pens}
 use Rattle.core_model.specs.Stores.{master_log}
 use Rattle.core_plans.specs.declared.held.LearntEntries.{LearntEntries}
-use Rattle.core_sessions.specs.Sessions.{Session, SessionLearns}
+use Rattle.core_sessions.specs.Sessions.{Session, SessionLearns, SessionLearnsVersion}
 use Rattle.core_steps.specs.World.{World, world_with}
 use Rattle.core_steps.specs.declared.jobs.LearntEntry.{LearntEntry}
 use Rattle.follower_cache.specs.Seen.{FollowerState}
 use Rattle.graph_model.specs.Log.{version}
 use Rattle.graph_model.specs.Told.{WhereTold}
 use Rattle.node_name.specs.declared.NodeName.{NodeName}
+use Rattle.read_plan.specs.Readings.{Reading}
 use Rattle.replies.specs.declared.calls.CallReply.TheVariants as called
 use Rattle.replies.specs.declared.nodes.KeptOrNot.TheVariants.{Kept}
 use Rattle.replies.specs.declared.reply.Reply.{Reply}
 use Rattle.replies.specs.declared.reply.Reply.TheVariants.{Called}
 use Rattle.served_shards.specs.Served.{low_at}
-use Rattle.shard_log.specs.View.{View}
+use Rattle.shard_log.specs.View.{View, as_note}
+use Rattle.tao_base.specs.Keys.{key_shard}
 use Rattle.tao_base.specs.Queries.{query_key, query_shard}
+use Rattle.tao_base.specs.declared.id.Key.{Key}
 use Rattle.tao_base.specs.declared.query.Query.{Query}
 use Rattle.tao_base.specs.declared.entry.Entry.{Entry}
 use Rattle.topology.specs.Config.{Settings}
@@ -58,6 +62,21 @@ pub record LearnsBoth (number : ℕ) (told : LearntEntries) (old new : List Sess
   pub between : List Session
   pub here : LearnsThrough number told.here old between
   pub other : LearnsThrough number told.other between new
+
+-- the session of that number, where there is one, learns a version of a key, through a note that has seen all of the key's log
+abbrev pub LearnsVersion : Pens → Option ℕ → Key → ℕ → List Session → List Session → Type 0
+LearnsVersion pens None key version old new = new ≡ old
+LearnsVersion pens (Some number) key version old new = SessionLearnsVersion number key version (as_note (pens (key_shard key))) old new
+
+-- the version that a reply answers a read with; None where it is no such reply
+abbrev pub answered_version : Reply → Option ℕ
+answered_version (Called (called.Read reply)) = Some reply.version
+answered_version reply = None
+
+-- the session of a read learns which version the reply answers; a refusal teaches it nothing
+abbrev pub LearnsAnswer : Pens → Reading → Reply → List Session → List Session → Type 0
+LearnsAnswer pens p (Called (called.Read reply)) old new = LearnsVersion pens p.reader (query_key p.query) reply.version old new
+LearnsAnswer pens p reply old new = new ≡ old
 
 -- an entry of a shard's log, as it is told by a note
 abbrev pub learn_through_note : ℕ → View → Option Entry → Option LearntEntry

@@ -1,6 +1,6 @@
 -- What contracts see of a core.
 use Rattle.core_nodes.specs.Outside.{Outside, outside}
-use Rattle.std.specs.Prelude.{ℕ, ◌≡◌, ◌<◌, ◌≤◌, ⊤, List, [], Bool, true, All, Some, length}
+use Rattle.std.specs.Prelude.{ℕ, ◌≡◌, ◌<◌, ◌≤◌, List, [], Bool, true, All, IfSome, Some, length}
 use Rattle.core_mail.specs.Inboxes.{AreEmpty, AreInboxesOf, HaveArrived, Inboxes}
 use Rattle.core_model.specs.Consistent.{GoesOn, IsConsistent}
 use Rattle.core_model.specs.Fleet.{Fleet}
@@ -80,13 +80,13 @@ abbrev pub author : Origin → ℕ
 author (Client session seq) = session
 author (Merge shard position) = 0
 
--- a write that is held is of an open session
+-- a call that is held is of an open session
 abbrev pub IsOfSession : List Session → HeldPlan → Type 0
 IsOfSession sessions (Write p) = is_open sessions (author p.origin) ≡ true
-IsOfSession sessions (Read p) = ⊤
+IsOfSession sessions (Read p) = IfSome p.reader (λ number. is_open sessions number ≡ true)
 
 -- the core may be used with keepers that tell these tables: it is consistent, each call that is held can go on, each open ask is that of one held
--- read, and each held write is of an open session
+-- read, and each of them is of an open session
 pub record IsCoreOf (tells : Bool) (tables : Tables) (core : CoreState) : Type 0 where
   pub is_consistent : IsConsistentCore tells tables core
   pub plans : ArePlansOf tells core.settings tables core.fleet core.plans

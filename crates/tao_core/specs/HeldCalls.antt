@@ -1,11 +1,14 @@
 -- What the replies to calls say, held or not, and to `advance`.
 use Rattle.std.specs.Prelude.{ℕ, ◌≡◌, ◌⊎◌, ⊤, Bool, true, IfSome, IsSome, List, Option, Some, None}
 use Rattle.std.specs.Prelude.{option_and_then}
-use Rattle.session_pass.specs.Passes.{IsNoteOf, SeenPass}
+use Rattle.session_pass.specs.Passes.{IsNoteOf, ReachesIn, SeenPass}
+use Rattle.shard_log.specs.View.{as_note}
+use Rattle.std.specs.Option.{option_map}
 use Rattle.graph_model.specs.Log.{entry_at}
 use Rattle.graph_model.specs.Told.{WhereTold}
+use Rattle.core_model.specs.Pens.{Pens, pens_of}
 use Rattle.core_nodes.specs.Settling.{IsLaterLink}
-use Rattle.core_plans.specs.Held.{AddsPlan, ChangesPlan, IsOver, Plans, StepsHeld, TakesPlan, given_up, learner, next_stage, plan_at, learnt_of_write}
+use Rattle.core_plans.specs.Held.{AddsPlan, ChangesPlan, IsOver, Plans, GivesUp, StepsHeld, TakesPlan, learner, next_stage, plan_at, learnt_of_write}
 use Rattle.core_plans.specs.Held.{learnt_with}
 use Rattle.core_plans.specs.HeldReads.{at_bound}
 use Rattle.core_plans.specs.declared.held.HeldPlan.{HeldPlan}
@@ -19,7 +22,7 @@ use Rattle.core_steps.specs.World.{World}
 use Rattle.core_steps.specs.declared.jobs.LearntEntry.{LearntEntry}
 use Rattle.node_name.specs.declared.NodeName.{NodeName}
 use Rattle.read_plan.specs.Ends.{EndsWith}
-use Rattle.read_plan.specs.Readings.{new_reading}
+use Rattle.read_plan.specs.Readings.{Reading, new_reading, read_by}
 use Rattle.replies.specs.declared.calls.CallReply.{CallReply}
 use Rattle.replies.specs.declared.calls.CallReply.TheVariants as called
 use Rattle.replies.specs.declared.calls.ReadReply.{ReadReply}
@@ -44,44 +47,57 @@ use Rattle.topology.specs.States.{NodeStates}
 use Rattle.words.specs.declared.PlanWord.{PlanWord}
 use Rattle.words.specs.declared.PlanWord.TheVariants as word
 use Rattle.write_plan.specs.Plans.{Writing, begun_write, reply_of}
-use Rattle.tao_core.specs.Calls.{KeptReaches, LearnsBoth, world_of}
+use Rattle.tao_core.specs.Calls.{KeptReaches, LearnsAnswer, LearnsBoth, world_of}
 use Rattle.tao_core.specs.Core.{CoreState, Moment, author}
+use Rattle.tao_core.specs.declared.teaching.Reader.{Reader}
 
 -- ---- one stage
 
--- the plans that are held, and the sessions
+-- the plans that are held, the sessions, and the logs of the shards as their pens see them
 pub record Held : Type 0 where
   pub plans : Plans
   pub sessions : List Session
+  pub pens : Pens
 
--- plans that are held, with sessions
-abbrev pub held_seen : Plans → List Session → Held
-held_seen plans sessions = record { plans = plans; sessions = sessions }
+-- plans that are held, with sessions and the logs of the shards
+abbrev pub held_seen : Plans → List Session → Pens → Held
+held_seen plans sessions pens = record { plans = plans; sessions = sessions; pens = pens }
 
--- the plans and the sessions of a core
+-- the plans and the sessions of a core, with the logs of its shards
 abbrev pub held_in : CoreState → Held
-held_in core = held_seen core.plans core.sessions
+held_in core = held_seen core.plans core.sessions (pens_of core.fleet.stores)
 
 -- the reply of a plan that is over: that of its call, with the plan's number, or its refusal
 abbrev pub numbered_reply : ℕ → Reply → Reply
 numbered_reply number (Called reply) = replied.Plan (Ended number reply)
 numbered_reply number reply = reply
 
--- the session of a write learns what is told with its reply
-abbrev pub LearnsOf : HeldPlan → LearntEntries → List Session → List Session → Type 0
-LearnsOf (of.Write p) told old new = LearnsBoth (author p.origin) told old new
-LearnsOf (of.Read p) told old new = new ≡ old
+-- what the session of a plan learns with that reply: of a write what it wrote, and of a read which version it answers
+abbrev pub LearnsOf : Pens → HeldPlan → Reply → List Session → List Session → Type 0
+LearnsOf pens (of.Write p) reply old new = LearnsBoth (author p.origin) (learnt_with reply (of.Write p)) old new
+LearnsOf pens (of.Read p) reply old new = LearnsAnswer pens p reply old new
 
--- the session of a write has room for what it is told with an Ok reply, once the write is over
-abbrev pub HasRoomFor : HeldPlan → List SeenPass → Type 0
-HasRoomFor (of.Write p) passes = next_stage (of.Write p) ≡ None → (reply : CallReply) → reply_of p ≡ Some (Called reply)
+-- who is ready to read has room for a version in its pass, and a note of the shard's log
+pub record IsReaderOn (pens : Pens) (shard : ℕ) (reader : Reader) (passes : List SeenPass) : Type 0 where
+  pub room : HasRoomForBoth reader.session passes
+  pub one_log : (pens shard).log ≡ reader.note.log
+
+-- who is ready to read of that shard is the session of that number, where there is one
+pub record IsReaderOf (pens : Pens) (shard : ℕ) (number : Option ℕ) (reader : Option Reader) (passes : List SeenPass) : Type 0 where
+  pub reader_is : number ≡ option_map (λ (r : Reader). r.session) reader
+  pub on : IfSome reader (λ r. IsReaderOn pens shard r passes)
+
+-- the session of a plan has room for what it learns with an Ok reply, once the plan is over
+abbrev pub HasRoomFor : Pens → HeldPlan → Option Reader → List SeenPass → Type 0
+HasRoomFor pens (of.Write p) reader passes = next_stage (of.Write p) ≡ None → (reply : CallReply) → reply_of p ≡ Some (Called reply)
     → HasRoomForBoth (author p.origin) passes
-HasRoomFor (of.Read p) passes = ⊤
+HasRoomFor pens (of.Read p) reader passes = (reply : ReadReply) → EndsWith p (Called (called.Read reply))
+    → IsReaderOf pens (query_shard p.query) p.reader reader passes
 
--- the session of a write has room for all that it may be told
-abbrev pub HasRoomAlready : HeldPlan → List SeenPass → Type 0
-HasRoomAlready (of.Write p) passes = HasRoomForBoth (author p.origin) passes
-HasRoomAlready (of.Read p) passes = ⊤
+-- the session of a plan is ready to learn of it, where the plan's next stage may be its last
+abbrev pub IsReady : Pens → HeldPlan → Option Reader → List SeenPass → Type 0
+IsReady pens (of.Write p) reader passes = IfSome (learner (of.Write p)) (λ number. HasRoomForBoth number passes)
+IsReady pens (of.Read p) reader passes = IsReaderOf pens (query_shard p.query) (learner (of.Read p)) reader passes
 
 -- what is told of a shard's log stands in what was seen of that, and the session of that number may learn it
 pub record MayLearnThrough (told : LearntEntry) (number : ℕ) (sessions : List Session) : Type 0 where
@@ -111,21 +127,33 @@ pub record MayLearnNow (number : ℕ) (told : LearntEntries) (passes : List Seen
 -- the session of a write is open, and has room for what it is told, which it may learn
 pub record MayLearnOf (p : Writing) (passes : List SeenPass) : Type 0 where
   pub author_is : is_open (sessions_of passes) (author p.origin) ≡ true
-  pub room : HasRoomFor (of.Write p) passes
+  pub room : next_stage (of.Write p) ≡ None → (reply : CallReply) → reply_of p ≡ Some (Called reply) → HasRoomForBoth (author p.origin) passes
   pub told : MayLearnBoth (learnt_of_write p) (author p.origin) (sessions_of passes)
 
--- the session of a held plan may learn what the plan tells; a read teaches nothing
-abbrev pub MayLearn : HeldPlan → List SeenPass → Type 0
-MayLearn (of.Read p) passes = ⊤
-MayLearn (of.Write p) passes = MayLearnOf p passes
+-- who is ready to read is an open session, and may see all of the shard's log
+pub record MayHear (pens : Pens) (shard : ℕ) (reader : Reader) (passes : List SeenPass) : Type 0 where
+  pub reader_is : is_open (sessions_of passes) reader.session ≡ true
+  pub on : IsReaderOn pens shard reader passes
+  pub may : IfSome (session_at (sessions_of passes) reader.session) (λ s. IsNoteOf shard (as_note (pens shard)) s.notes)
 
--- a plan that is over is told and taken out, and its session learns what it wrote
+-- who is ready is the session of the read, and may see all of its shard's log, in which the key has come to the version
+pub record MayHearOf (pens : Pens) (p : Reading) (reader : Option Reader) (passes : List SeenPass) (version : ℕ) : Type 0 where
+  pub reader_is : p.reader ≡ option_map (λ (r : Reader). r.session) reader
+  pub may : IfSome reader (λ r. MayHear pens (query_shard p.query) r passes)
+  pub reached : ReachesIn (as_note (pens (query_shard p.query))) (query_key p.query) version
+
+-- the session of a plan may learn of it: of a read where that ends with an answer
+abbrev pub MayLearn : Pens → HeldPlan → Option Reader → List SeenPass → Type 0
+MayLearn pens (of.Read p) reader passes = (reply : ReadReply) → EndsWith p (Called (called.Read reply)) → MayHearOf pens p reader passes reply.version
+MayLearn pens (of.Write p) reader passes = MayLearnOf p passes
+
+-- a plan that is over is told and taken out, and its session learns of it
 pub record EndsPlan (number : ℕ) (plan : HeldPlan) (old : Held) (reply : Reply) (new : Held) : Type 0 where
   pub ended : Reply
   pub over : IsOver plan ended
   pub told : reply ≡ numbered_reply number ended
   pub takes : TakesPlan number old.plans new.plans
-  pub learns : LearnsOf plan (learnt_with ended plan) old.sessions new.sessions
+  pub learns : LearnsOf new.pens plan ended old.sessions new.sessions
 
 -- a plan that did a stage is held before the stage that follows, which is told
 pub record GoesOnHeld (next : Reply) (number : ℕ) (plan : HeldPlan) (old : Held) (reply : Reply) (new : Held) : Type 0 where
@@ -157,13 +185,12 @@ HeldReaches tells s (of.Read q) new = (reply : ReadReply) → EndsWith q (Called
     → KeptReaches tells s q.follower q.query (Called (called.Read reply)) new
 HeldReaches tells s (of.Write q) new = ⊤
 
--- a write of which only the last stage is left ends without it, and nothing else changes: memory was wanting for what its session is to learn
+-- a plan ends in place of a stage that may be its last: memory was wanting for what its session is to learn
 pub record EndsWithout (before : HeldPlan) (old : World) (after : HeldPlan) (new : World) : Type 0 where
   pub last : IsSome (learner before)
-  pub then : after ≡ given_up before
-  pub same : new ≡ old
+  pub gives : GivesUp before old after new
 
--- a held plan did the stage that follows, or ends without its last one
+-- a held plan did the stage that follows, or ends in place of one that may be its last
 abbrev pub Advances : Rules → HeldPlan → World → HeldPlan → World → Type 0
 Advances rules before old after new = StepsHeld rules before old after new ⊎ EndsWithout before old after new
 
@@ -225,12 +252,13 @@ abbrev pub begun_plan : Settings → Session → NodeName → CheckedCall → He
 begun_plan s session follower (call.Write write) =
     of.Write (begun_write write.write (Client write.session write.seq) session.region session.tier follower)
 begun_plan s session follower (call.Read read) =
-    of.Read (at_bound s (new_reading read.query session.region session.tier (call_floor session (call.Read read)) read.critical follower))
+    of.Read (read_by read.session
+    (at_bound s (new_reading read.query session.region session.tier (call_floor session (call.Read read)) read.critical follower)))
 
--- the session of a call has room for what it may be told: of a write, both entries
-abbrev pub HasRoomForCall : CheckedCall → List SeenPass → Type 0
-HasRoomForCall (call.Write write) passes = HasRoomForBoth write.session passes
-HasRoomForCall (call.Read read) passes = ⊤
+-- the shard of what a plan writes or asks
+abbrev pub plan_shard : HeldPlan → ℕ
+plan_shard (of.Write p) = write_shard p.write
+plan_shard (of.Read p) = query_shard p.query
 
 -- the call's session is open, and the plan begins at the follower that is chosen for it
 pub record IsBegun (s : Settings) (states : NodeStates) (sessions : List Session) (asked : CheckedCall) (plan : HeldPlan) : Type 0 where
@@ -281,13 +309,13 @@ AnswersHold tells number asked old reply new = HoldGoes tells number asked old r
 
 -- ---- calls that aren't held
 
--- a plan does all of its stages at once. Its session learns what is told with its reply
+-- a plan does all of its stages at once. Its session learns of it by its reply
 pub record DoesAtOnce (tells : Bool) (plan : HeldPlan) (old : Moment) (reply : Reply) (new : Moment) : Type 0 where
   pub after : HeldPlan
   pub carries : CarriesOut (rules_of tells old.core.settings) plan (world_of old) after (world_of new)
   pub over : IsOver after reply
   pub reaches : HeldReaches tells old.core.settings after (world_of new)
-  pub learns : LearnsOf after (learnt_with reply after) old.core.sessions new.core.sessions
+  pub learns : LearnsOf (pens_of new.core.fleet.stores) after reply old.core.sessions new.core.sessions
   pub link : IsLaterLink old.link new.link
   pub rest : new.core ≡ record old.core { fleet = new.core.fleet; mail = new.core.mail; sessions = new.core.sessions }
 

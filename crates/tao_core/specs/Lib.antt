@@ -7,6 +7,7 @@ pub mod HeldCalls
 pub mod Deliveries
 pub mod Laws
 pub mod LinkReplies
+pub mod Opened
 pub mod Replies
 pub mod StoreReplies
 pub mod Streams

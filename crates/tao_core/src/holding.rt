@@ -1,18 +1,22 @@
 //! Calls that are held, and go stage by stage.
-ghost use Rattle.std.specs.Prelude.{◌≡◌, IfSome, IsSome, None, OnErr, OnOk, Some, option_and_then};
+ghost use Rattle.std.specs.Prelude.{◌≡◌, ◌<◌, IfOk, IfSome, IsSome, None, OnErr, option_and_then};
+ghost use Rattle.core_model.specs.Pens.{pens_of};
+ghost use Rattle.core_model.specs.Stores.{AreStores, store_count};
 ghost use Rattle.core_plans.specs.Held.{CanStep, IsUnderWay, OpensFirst, learner, plan_at};
 ghost use Rattle.core_plans.specs.LedBy.{rules_of};
-ghost use Rattle.core_sessions.specs.Sessions.{HasRoomForBoth, sessions_of};
+ghost use Rattle.core_sessions.specs.Sessions.{sessions_of};
 ghost use Rattle.core_steps.specs.Posting.{CanPost, PostsOn};
 ghost use Rattle.core_steps.specs.World.{world};
 ghost use Rattle.tao_core.specs.Asked.{CallCanBeDone, PlanCanBeDone};
-ghost use Rattle.tao_core.specs.Core.{IsCoreOf, IsOfSession, StaysUsable, author, moment};
-ghost use Rattle.tao_core.specs.HeldCalls.{AdvancesPlan, AnswersHold, AnswersPlan, EndsPlan, HasRoomFor, MayLearn, StepsAt};
-ghost use Rattle.tao_core.specs.HeldCalls.{held_seen, next_at, numbered_reply};
+ghost use Rattle.tao_core.specs.Core.{IsCoreOf, IsOfSession, StaysUsable, moment};
+ghost use Rattle.tao_core.specs.HeldCalls.{AdvancesPlan, AnswersHold, AnswersPlan, EndsPlan, HasRoomFor, IsReady, MayLearn, StepsAt};
+ghost use Rattle.tao_core.specs.HeldCalls.{held_seen, next_at, numbered_reply, plan_shard};
 
-use crate::calls::{begin_plan, begun_plan, finish_plan};
+use crate::calls::{begin_plan, begun_plan, finish_plan, make_room};
 use crate::serving::Core;
-use core_plans::HeldPlans;
+use crate::teaching::{Reader, ready_reader};
+use core_nodes::Fleet;
+use core_plans::{HeldPlan, HeldPlans};
 use core_sessions::Sessions;
 use core_steps::{Nodes, out_of_memory};
 use replies::{PlanReply, Reply, Stage};
@@ -43,41 +47,6 @@ fn next_at(plans: &HeldPlans, number: u32) -> Option<Stage>
     plans.at(number)?.next()
 }
 
-/// Takes a plan that is over out, and its session learns what is told with its reply.
-fn end_plan(plans: &mut HeldPlans, sessions: &mut Sessions, number: u32) -> Reply
-    requires there { IsSome (plan_at plans.old number) }
-    requires over { next_at plans.old number ≡ None }
-    requires may { IfSome (plan_at plans.old number) (λ plan. MayLearn plan sessions.old) }
-    ensures { IfSome (plan_at plans.old number) (λ plan.
-        EndsPlan number plan (held_seen plans.old (sessions_of sessions.old)) result (held_seen plans.new (sessions_of sessions.new))) }
-{
-    match plans.take(number) {
-        Some(plan) => with_number(number, finish_plan(sessions, plan)),
-        None => unreachable!(),
-    }
-}
-
-/// The session of the plan of that number, where it is a write of which only the last stage is left.
-fn learner_at(plans: &HeldPlans, number: u32) -> Option<u32>
-    ensures { result ≡ option_and_then learner (plan_at plans.now number) }
-{
-    plans.at(number)?.learner()
-}
-
-/// Makes room for what the session of a write is to learn, where only its last stage is left. The one error is want of memory.
-#[tactic(auto, using(crate::proofs::HeldLearning::learner_open))]
-fn room_for_last(plans: &HeldPlans, sessions: &mut Sessions, number: u32) -> Result<(), OutOfMemory>
-    requires author { IfSome (plan_at plans.now number) (IsOfSession (sessions_of sessions.old)) }
-    ensures same { sessions_of sessions.new ≡ sessions_of sessions.old }
-    ensures room { OnOk result (IfSome (option_and_then learner (plan_at plans.now number)) (λ session. HasRoomForBoth session sessions.new)) }
-    ensures learner { OnErr result (IsSome (option_and_then learner (plan_at plans.now number))) }
-{
-    match learner_at(plans, number) {
-        Some(session) => sessions.reserve(session),
-        None => Ok(()),
-    }
-}
-
 /// A stage of a held plan that is due: the configuration by which it is done, and the plan's number.
 #[derive(Clone, Copy)]
 struct DueStage<'c> {
@@ -85,8 +54,89 @@ struct DueStage<'c> {
     number: u32,
 }
 
-/// Does the stage of a held plan that follows. Before the last stage of a write room is made for what its session is to learn; where
-/// memory is wanting for that, the plan ends without it.
+/// Takes a plan that is over out, and its session learns of it by its reply.
+fn end_plan(
+    plans: &mut HeldPlans,
+    sessions: &mut Sessions,
+    fleet: &mut Fleet,
+    due: &DueStage<'_>,
+    reader: Option<Reader>,
+) -> Reply
+    requires there { IsSome (plan_at plans.old due.now.number) }
+    requires over { next_at plans.old due.now.number ≡ None }
+    requires stores { AreStores due.now.config.now (store_count due.now.config.now) fleet.old.stores }
+    requires here { IfSome (plan_at plans.old due.now.number) (λ plan. plan_shard plan < due.now.config.now.shards) }
+    requires may { IfSome (plan_at plans.old due.now.number) (λ plan. MayLearn (pens_of fleet.old.stores) plan reader sessions.old) }
+    ensures ends { IfSome (plan_at plans.old due.now.number) (λ plan. EndsPlan due.now.number plan
+        (held_seen plans.old (sessions_of sessions.old) (pens_of fleet.old.stores)) result
+        (held_seen plans.new (sessions_of sessions.new) (pens_of fleet.new.stores))) }
+    ensures fleet { fleet.new ≡ fleet.old }
+{
+    match plans.take(due.number) {
+        Some(plan) => {
+            let reply = finish_plan(sessions, fleet, due.config, reader, plan);
+            with_number(due.number, reply)
+        }
+        None => unreachable!(),
+    }
+}
+
+/// Gets the session of a plan ready to learn of it, before a stage that may be its last. None for a write, which has the notes that its session
+/// learns with, and where the stage is not the last. The one error is want of memory.
+fn ready_for_last(
+    sessions: &mut Sessions,
+    fleet: &mut Fleet,
+    config: &Config,
+    plan: &HeldPlan,
+) -> Result<Option<Reader>, OutOfMemory>
+    requires author { IsOfSession (sessions_of sessions.old) plan.now }
+    requires stores { AreStores config.now (store_count config.now) fleet.old.stores }
+    requires here { plan_shard plan.now < config.now.shards }
+    ensures ready { IfOk result (λ reader. IsReady (pens_of fleet.old.stores) plan.now reader sessions.new) }
+    ensures learner { OnErr result (IsSome (learner plan.now)) }
+    ensures sessions { sessions_of sessions.new ≡ sessions_of sessions.old }
+    ensures fleet { fleet.new ≡ fleet.old }
+{
+    let Some(session) = plan.learner() else {
+        return Ok(None);
+    };
+    match plan {
+        HeldPlan::Read(plan) => {
+            let reader = ready_reader(sessions, fleet, config, session, plan.query().shard())?;
+            Ok(Some(reader))
+        }
+        HeldPlan::Write(_) => {
+            sessions.reserve(session)?;
+            Ok(None)
+        }
+    }
+}
+
+/// Gets the session of the plan of that number ready to learn of it.
+fn ready_at(
+    plans: &HeldPlans,
+    sessions: &mut Sessions,
+    fleet: &mut Fleet,
+    due: &DueStage<'_>,
+) -> Result<Option<Reader>, OutOfMemory>
+    requires there { IsSome (plan_at plans.now due.now.number) }
+    requires author { IfSome (plan_at plans.now due.now.number) (IsOfSession (sessions_of sessions.old)) }
+    requires stores { AreStores due.now.config.now (store_count due.now.config.now) fleet.old.stores }
+    requires here { IfSome (plan_at plans.now due.now.number) (λ plan. plan_shard plan < due.now.config.now.shards) }
+    ensures ready { IfOk result (λ reader. IfSome (plan_at plans.now due.now.number) (λ plan.
+        IsReady (pens_of fleet.old.stores) plan reader sessions.new)) }
+    ensures learner { OnErr result (IsSome (option_and_then learner (plan_at plans.now due.now.number))) }
+    ensures sessions { sessions_of sessions.new ≡ sessions_of sessions.old }
+    ensures fleet { fleet.new ≡ fleet.old }
+{
+    match plans.at(due.number) {
+        Some(plan) => ready_for_last(sessions, fleet, due.config, plan),
+        None => unreachable!(),
+    }
+}
+
+/// Does the stage of a held plan that follows. Before one that may be its last the plan's session gets ready to learn of it; where memory is
+/// wanting for that, the plan ends in place of the stage.
 fn step_or_give_up<K: Keeper, L: Link>(
     plans: &mut HeldPlans,
     sessions: &mut Sessions,
@@ -94,7 +144,7 @@ fn step_or_give_up<K: Keeper, L: Link>(
     due: &DueStage<'_>,
     keepers: &mut K,
     link: &mut L,
-)
+) -> Option<Reader>
     requires ready { CanPost K.TELLS due.now.config.now (world nodes.old (K.state keepers.old) (L.shown link.old)) }
     requires can { CanStep K.TELLS due.now.config.now (K.state keepers.old).told nodes.old.fleet (plan_at plans.old due.now.number) }
     requires author { IfSome (plan_at plans.old due.now.number) (IsOfSession (sessions_of sessions.old)) }
@@ -107,11 +157,17 @@ fn step_or_give_up<K: Keeper, L: Link>(
         (world nodes.old (K.state keepers.old) (L.shown link.old))
         (world nodes.new (K.state keepers.new) (L.shown link.new)) }
     ensures same { sessions_of sessions.new ≡ sessions_of sessions.old }
-    ensures room { IfSome (plan_at plans.new due.now.number) (λ plan. HasRoomFor plan sessions.new) }
+    ensures room { IfSome (plan_at plans.new due.now.number) (λ plan. HasRoomFor (pens_of nodes.new.fleet.stores) plan result sessions.new) }
 {
-    match room_for_last(plans, sessions, due.number) {
-        Ok(()) => plans.step(nodes, due.config, keepers, link, due.number),
-        Err(OutOfMemory) => plans.give_up(due.number),
+    match ready_at(plans, sessions, &mut nodes.fleet, due) {
+        Ok(reader) => {
+            plans.step(nodes, due.config, keepers, link, due.number);
+            reader
+        }
+        Err(OutOfMemory) => {
+            plans.give_up(nodes, due.config, keepers, link, due.number);
+            None
+        }
     }
 }
 
@@ -130,24 +186,34 @@ impl<'c> Core<'c> {
             (moment self.new (K.state keepers.new) (L.shown link.new)) }
         ensures usable { StaysUsable K.TELLS (K.state keepers.old) (K.state keepers.new) self.old self.new }
     {
-        step_or_give_up(
+        let due = DueStage {
+            config: self.config,
+            number,
+        };
+        let reader = step_or_give_up(
             &mut self.plans,
             &mut self.sessions,
             &mut self.nodes,
-            &DueStage {
-                config: self.config,
-                number,
-            },
+            &due,
             keepers,
             link,
         );
         match next_at(&self.plans, number) {
-            Some(next) => Reply::Plan(PlanReply::Next {
-                word,
-                plan: number,
-                next,
-            }),
-            None => end_plan(&mut self.plans, &mut self.sessions, number),
+            Some(next) => {
+                drop(reader);
+                Reply::Plan(PlanReply::Next {
+                    word,
+                    plan: number,
+                    next,
+                })
+            }
+            None => end_plan(
+                &mut self.plans,
+                &mut self.sessions,
+                &mut self.nodes.fleet,
+                &due,
+                reader,
+            ),
         }
     }
 
@@ -166,13 +232,17 @@ impl<'c> Core<'c> {
             (moment self.new (K.state keepers.new) (L.shown link.new)) }
         ensures usable { StaysUsable K.TELLS (K.state keepers.old) (K.state keepers.new) self.old self.new }
     {
-        let from = match begin_plan(&mut self.sessions, &self.nodes.topology, &call) {
+        let from = match begin_plan(&self.sessions, &self.nodes.topology, &call) {
             Ok(from) => from,
             Err(reply) => {
                 drop(call);
                 return reply;
             }
         };
+        if make_room(&mut self.sessions, &call).is_err() {
+            drop(call);
+            return out_of_memory();
+        }
         let plan = begun_plan(self.config, from, call);
         match self.plans.add(number, plan) {
             Ok(()) => self.step_plan(keepers, link, PlanWord::Hold, number),

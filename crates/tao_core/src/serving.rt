@@ -5,6 +5,7 @@ ghost use Rattle.core_nodes.specs.Opening.{IsOpened, MayOpen, RefusesOpening};
 ghost use Rattle.graph_model.specs.Told.{WhereTold};
 ghost use Rattle.tao_core.specs.Asked.{CanBeDone, reply_as};
 ghost use Rattle.tao_core.specs.Core.{IsConsistentCore, IsCoreOf, IsNewCore, StaysHeld, StaysUsable, moment};
+ghost use Rattle.tao_core.specs.Opened.{AreAsBefore};
 ghost use Rattle.core_nodes.specs.Beginning.{AreAtStores};
 ghost use Rattle.core_model.specs.Stores.{AreStores, store_count};
 ghost use Rattle.core_model.specs.Consistent.{IsFleetOf};
@@ -64,7 +65,10 @@ impl<'c> Model for Core<'c> {
 impl<'c> Core<'c> {
     /// Opens the stores of each region and shard with the configuration's line, in order, and makes the nodes before them. Each is up, holds
     /// nothing yet, and has processed all that the stores of its region have; no message waits for it. No session is open then. Where every
-    /// store takes the line, the logs are sound, and what is missing at the other end of an edge is owed by an open job. Logs only grow.
+    /// store takes the line, the logs are sound, and what is missing at the other end of an edge is owed by an open job.
+    ///
+    /// The logs and the open jobs are those that the keepers tell, whatever comes of it: so each write that an earlier run acknowledged stands
+    /// at its position, however that run ended.
     ///
     /// `OtherLine` comes exactly where a store was first opened with another line: the stores before it
     /// are open then. `KeeperFault` comes only where the keepers' count of faults rose, and
@@ -84,6 +88,7 @@ impl<'c> Core<'c> {
         ensures keepers { IfOk result (λ core. IsCoreOf K.TELLS (K.state keepers.new).told core) }
         ensures ends { IfOk result (λ core. WhereTold K.TELLS (AreAtStores (K.state keepers.new).told core.fleet)) }
         ensures refused { IfErr result (RefusesOpening K.TELLS config.now line.now (K.state keepers.old) (K.state keepers.new)) }
+        ensures as_before { WhereTold K.TELLS (AreAsBefore (K.state keepers.old).told (K.state keepers.new).told) }
         ensures grows { LogsGrow K.TELLS (K.state keepers.old).told (K.state keepers.new).told }
         ensures later { IsLater (K.state keepers.old) (K.state keepers.new) }
     {

@@ -1,12 +1,22 @@
-//! What a session learns of a write: what it is told, by notes of the shards' logs.
-ghost use Rattle.std.specs.Prelude.{IfSome};
-ghost use Rattle.core_sessions.specs.Sessions.{HasRoom, HasRoomForBoth, sessions_of};
-ghost use Rattle.tao_core.specs.Calls.{LearnsBoth, LearnsThrough};
-ghost use Rattle.tao_core.specs.HeldCalls.{MayLearnNow, MayLearnOne};
+//! What a session learns, by notes of the shards' logs: of a write what it is told, and of a read which version that answers.
+ghost use Rattle.std.specs.Prelude.{◌≡◌, ◌<◌, IfOk, IfSome, OnOk, true};
+ghost use Rattle.core_model.specs.Pens.{pens_of};
+ghost use Rattle.core_model.specs.Stores.{AreStores, store_count};
+ghost use Rattle.core_sessions.specs.Sessions.{HasRoom, HasRoomForBoth, is_open, sessions_of};
+ghost use Rattle.session_pass.specs.Passes.{ReachesIn};
+ghost use Rattle.shard_log.specs.View.{as_note};
+ghost use Rattle.std.specs.Option.{option_map};
+ghost use Rattle.tao_base.specs.Keys.{key_shard};
+ghost use Rattle.tao_core.specs.Calls.{LearnsBoth, LearnsThrough, LearnsVersion};
+ghost use Rattle.tao_core.specs.HeldCalls.{MayHear, MayLearnNow, MayLearnOne};
 
+use core_nodes::Fleet;
 use core_plans::LearntEntries;
 use core_sessions::Sessions;
 use core_steps::LearntEntry;
+use shard_log::Note;
+use tao_base::{Key, OutOfMemory};
+use topology::Config;
 
 /// A session learns the entry of a shard's log that it is told, where there is one.
 #[tactic(auto, using(crate::proofs::LearningBoth::room_of_both))]
@@ -29,4 +39,59 @@ pub(crate) fn learn_both(sessions: &mut Sessions, session: u32, told: LearntEntr
     let LearntEntries { here, other } = told;
     learn_through(sessions, session, here);
     learn_through(sessions, session, other);
+}
+
+/// A session that is to learn which version its read answers, and a note of the shard's log with which it does.
+#[derive(Drop)]
+pub struct Reader {
+    pub session: u32,
+    pub note: Note,
+}
+
+/// Gets a session ready to learn which version of a key of the shard its read answers: makes room for that, and takes a note of the log. The one
+/// error is want of memory.
+pub(crate) fn ready_reader(
+    sessions: &mut Sessions,
+    fleet: &mut Fleet,
+    config: &Config,
+    session: u32,
+    shard: u16,
+) -> Result<Reader, OutOfMemory>
+    requires open { is_open (sessions_of sessions.old) session ≡ true }
+    requires stores { AreStores config.now (store_count config.now) fleet.old.stores }
+    requires here { shard < config.now.shards }
+    ensures reader { IfOk result (λ reader. (reader.session ≡ session) × (reader.note ≡ as_note (pens_of fleet.old.stores shard))) }
+    ensures room { OnOk result (HasRoomForBoth session sessions.new) }
+    ensures sessions { sessions_of sessions.new ≡ sessions_of sessions.old }
+    ensures fleet { fleet.new ≡ fleet.old }
+{
+    sessions.reserve(session)?;
+    let note = fleet.note(config, shard)?;
+    Ok(Reader { session, note })
+}
+
+/// A session that is ready learns a version of a key, to which the key's log has come. Takes no memory.
+pub(crate) fn learn_version(
+    sessions: &mut Sessions,
+    fleet: &mut Fleet,
+    config: &Config,
+    reader: Option<Reader>,
+    key: Key,
+    version: u64,
+)
+    requires stores { AreStores config.now (store_count config.now) fleet.old.stores }
+    requires here { key_shard key < config.now.shards }
+    requires may { IfSome reader (λ r. MayHear (pens_of fleet.old.stores) (key_shard key) r sessions.old) }
+    requires reached { ReachesIn (as_note (pens_of fleet.old.stores (key_shard key))) key version }
+    ensures learns { LearnsVersion (pens_of fleet.old.stores) (option_map (λ r. r.session) reader) key version
+        (sessions_of sessions.old) (sessions_of sessions.new) }
+    ensures fleet { fleet.new ≡ fleet.old }
+{
+    match reader {
+        Some(Reader { session, note }) => {
+            let note = fleet.renew(config, key.shard(), note);
+            sessions.learn_version(session, key, version, note);
+        }
+        None => (),
+    }
 }

@@ -6,6 +6,7 @@ use Rattle.core_model.specs.Pens.{pens_of}
 use Rattle.topology.specs.States.{NodeStates}
 use Rattle.tao_core.specs.Core.{IsSessionOf}
 use Rattle.tao_core.proofs.HeldNone.{no_plan, none_held}
+use Rattle.tao_core.proofs.OpenedLemmas.{opened_as}
 use Rattle.tao_core.proofs.serving.Core.open.Goals as goal
 
 pub returns-in-Ok-open-clause-keepers : goal.returns-in-Ok-open-clause-keepers
@@ -28,3 +29,8 @@ returns-in-Ok-open-clause-keepers g c =
       authors = λ number plan at. absurd (no_plan c.new-in-Ok-open.result number plan c.new-in-Ok-open.ensures.none at);
       plans = none_held g.K.Keeper.TELLS s _ c.in_ok-fleet.fleet c.new-in-Ok-open.result c.new-in-Ok-open.ensures.none c.in_ok-fleet.ensures.empty;
     }
+
+pub returns-in-Ok-open-clause-as_before : goal.returns-in-Ok-open-clause-as_before
+returns-in-Ok-open-clause-as_before g c =
+    opened_as g.K.Keeper.TELLS c.args.config.now c.args.line.now (g.K.Keeper.state c.args.keepers.now).told (g.K.Keeper.state c.open.new.keepers).told
+    c.in_ok-fleet.ensures.opened

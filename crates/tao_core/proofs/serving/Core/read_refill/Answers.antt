@@ -3,7 +3,6 @@ use Rattle.core_model.specs.Fleet.{follower_names}
 use Rattle.core_model.specs.Messages.{IsRefillFor}
 use Rattle.core_model.specs.Pens.{pens_of}
 use Rattle.core_plans.specs.Held.{IsUnderWay}
-use Rattle.core_plans.specs.declared.held.HeldPlan.TheVariants as of
 use Rattle.tao_core.specs.Core.{CoreState, IsConsistentCore, core_state}
 use Rattle.tao_core.proofs.AnsweredAtOnce.{refill_is, refill_reads}
 use Rattle.tao_core.proofs.Delivering.{refill_under_way}
@@ -36,7 +35,7 @@ returns g c =
     let went = c.carry_read in
     let done =
     refill_reads g.K.Keeper.TELLS c.args.node c.args.refill core c.args.self.now c.self.view_is (state c.args.keepers.now) (state went.new.keepers)
-    (shown c.args.link.now) (shown went.new.link) c.requires.keepers went.new.nodes c.begin_read-plan.result (of.Read went.new.plan)
+    (shown c.args.link.now) (shown went.new.link) c.requires.keepers went.new.nodes c.begin_read-plan.result went.new.plan
     (refill_is core.settings c.args.node c.args.refill c.region_of-region.result c.home_tier-tier.result c.begin_read-plan.result c.begin_read-plan.ensures
     c.region_of-region.ensures c.home_tier-tier.ensures)
     went.ensures.does went.ensures.read went.ensures.on c.finish.result c.finish.ensures in

@@ -1,16 +1,17 @@
--- The worked run is one of the promise, and the seven replies are none.
+-- The worked run is one of the promise, and the eight replies are none.
 use Rattle.std.proofs.Common.{◌≡◌, ◌<◌, ◌≤◌, ◌∷◌, [], ℕ, zero, suc, Bool, true, false, List, Option, Some, None, length, ap, sym, refl, subst, arith, ◌∙◌}
 use Rattle.std.proofs.Common.{append-nil, inl, inr}
-use Rattle.std.specs.Prelude.{Contains, filter_map, not, slice_index_or}
+use Rattle.std.proofs.lemmas.Bool.{cases_Bool}
+use Rattle.std.specs.Prelude.{◌==◌, Contains, filter_map, not, slice_index_or}
 use Rattle.std.proofs.lemmas.List.{take_all}
 use Rattle.std.proofs.lemmas.List.Elements.{Contains-get_or}
 use Rattle.graph_model.specs.Legal.{floor}
 use Rattle.graph_model.specs.Log.{entry_at}
 use Rattle.graph_model.specs.Soundness.{EdgeUpdate, other_end, updates_of}
-use Rattle.plain_promise.specs.Example.{SevenAreRefused, SixLinesRun, added_at_1, adds, at_first, both_ends, list_from_store, list_kept}
-use Rattle.plain_promise.specs.Example.{once_settled, once_written, reads_list, with_log}
-use Rattle.plain_promise.specs.Promise.{AnswersSameAgain, AreSameReplies, EachGrows, HasEachOnce, IsWellKept, KeepsPromise, Logs, RunsPlainly, Said}
-use Rattle.plain_promise.specs.Promise.{gained}
+use Rattle.plain_promise.specs.Example.{EightAreRefused, SixLinesRun, added_at_1, adds, at_first, both_ends, list_from_store, list_kept}
+use Rattle.plain_promise.specs.Example.{once_read, once_seen, once_settled, once_written, other_reads, read_again, reads_list, with_log}
+use Rattle.plain_promise.specs.Promise.{AnswersSameAgain, AreSameReplies, EachGrows, HasEachOnce, IsWellKept, KeepsPromise, Logs, Plain, RunsPlainly, Said}
+use Rattle.plain_promise.specs.Promise.{SeenVersion, begun_now, floor_at_start, gained, last_seen, seen_by}
 use Rattle.replies.specs.declared.calls.CallReply.TheVariants as called
 use Rattle.replies.specs.declared.calls.ReadReply.{ReadReply}
 use Rattle.replies.specs.declared.reply.Reply.TheVariants.{Audited, Called, Opened, Settled}
@@ -94,6 +95,7 @@ opened = record {
   grows = grows_none ([] ∷ []);
   well_kept = well_kept [] (omega arith);
   learnt = λ session. ([], refl);
+  seen = λ session. refl;
   held = λ plan. refl;
   settled = refl;
 }
@@ -124,19 +126,27 @@ added_is = record {
   grows = grows_first;
   well_kept = well_kept first_add one_long;
   learnt = λ session. (once_written.learnt session, refl);
+  seen = λ session. refl;
   held = λ plan. refl;
   settled = refl;
 }
 
-reads_so : (reply : ReadReply) → reply.answer ≡ EdgesAre (edge 2 5 1 ∷ []) → reply.version ≡ 1
-    → KeepsPromise one_type once_written (asks.Call (Read reads_list)) (Called (called.Read reply)) once_written
-reads_so reply answer version = record {
+-- once the edge is written, with what each session has seen
+abbrev seeing : (ℕ → List SeenVersion) → Plain
+seeing seen = record once_written { seen = seen }
+
+-- a read of session 1, which shows it one more version
+reads_so : (seen now : ℕ → List SeenVersion) (reply : ReadReply) → last_seen (seen 1) (query_key reads_list.query) ≤ 1
+    → reply.answer ≡ EdgesAre (edge 2 5 1 ∷ []) → reply.version ≡ 1
+    → ((session : ℕ) → now session ≡ seen_by (Read reads_list) (called.Read reply) session (seen session))
+    → KeepsPromise one_type (seeing seen) (asks.Call (Read reads_list)) (Called (called.Read reply)) (seeing now)
+reads_so seen now reply most answer version shows = record {
   says = record {
     legal = record {
       n = 1;
       answers = answer;
       version_is = version;
-      reached = (let least : floor first_add (query_key reads_list.query) ≡ 1 = refl in omega (arith, least, version));
+      reached = (let least : floor first_add (query_key reads_list.query) ≡ 1 = refl in omega (arith, least, version, most));
     };
     whole = λ critical. absurd (cc (critical));
     last = λ logs settled same. absurd (cc (settled));
@@ -145,22 +155,27 @@ reads_so reply answer version = record {
   grows = grows_none (first_add ∷ []);
   well_kept = well_kept first_add one_long;
   learnt = λ session. ([], sym (append-nil (once_written.learnt session)));
+  seen = shows;
   held = λ plan. refl;
   settled = refl;
 }
 
-audited : KeepsPromise one_type once_written (asks.Store (Audit reads_list)) (Audited (EdgesAre (edge 2 5 1 ∷ [])) 1) once_written
+again_seen : (session : ℕ) → read_again.seen session ≡ seen_by (Read reads_list) (called.Read list_kept) session (once_read.seen session)
+again_seen session = elim (cases_Bool (session == 1)) [ inl is ↦ rw is refl | inr isnt ↦ rw isnt refl ]
+
+audited : KeepsPromise one_type read_again (asks.Store (Audit reads_list)) (Audited (EdgesAre (edge 2 5 1 ∷ [])) 1) read_again
 audited = record {
   says = record { reply_is = refl };
   changes = refl;
   grows = grows_none (first_add ∷ []);
   well_kept = well_kept first_add one_long;
   learnt = λ session. ([], sym (append-nil (once_written.learnt session)));
+  seen = λ session. refl;
   held = λ plan. refl;
   settled = refl;
 }
 
-settled_is : KeepsPromise one_type once_written (asks.Store Settle) (Settled (1 ∷ [])) once_settled
+settled_is : KeepsPromise one_type read_again (asks.Store Settle) (Settled (1 ∷ [])) once_settled
 settled_is = record {
   says = record { none = λ shard position. refl; paired = λ id1 atype inverse id2 has. absurd (cc (has)); lengths_are = refl };
   changes = record {
@@ -172,6 +187,7 @@ settled_is = record {
   grows = grows_none (first_add ∷ []);
   well_kept = well_kept first_add one_long;
   learnt = λ session. ([], sym (append-nil (once_written.learnt session)));
+  seen = λ session. refl;
   held = λ plan. refl;
   settled = refl;
 }
@@ -189,7 +205,7 @@ kept_so a b one two =
     subst (λ x. AreSameReplies x b) first (subst (AreSameReplies list_from_store) second (record { answer = refl; version = refl; hops = refl; store = refl }))
 
 -- the lines from the last one on, the two last ones, and so on
-from_settle : RunsPlainly one_type once_written (record { asked = Some (asks.Store Settle); reply = Settled (1 ∷ []) } ∷ []) once_settled
+from_settle : RunsPlainly one_type read_again (record { asked = Some (asks.Store Settle); reply = Settled (1 ∷ []) } ∷ []) once_settled
 from_settle = (once_settled, settled_is, tt, refl)
 
 pub six_lines_run : SixLinesRun
@@ -203,15 +219,15 @@ six_lines_run = record {
       added_is,
       not_again _ _ (λ call at again. absurd (cc (at))),
       (
-        once_written,
-        reads_so list_from_store refl refl,
+        once_read,
+        reads_so once_written.seen once_read.seen list_from_store (omega arith) refl refl (λ session. refl),
         record { same = λ call a b at again critical one two kept. kept_so a b one two },
         (
-          once_written,
-          reads_so list_kept refl refl,
+          read_again,
+          reads_so once_read.seen read_again.seen list_kept (omega arith) refl refl again_seen,
           not_again _ _ (λ call at again. absurd (cc (again))),
           (
-            once_written,
+            read_again,
             audited,
             not_again _ _ (λ call at again. absurd (cc (at))),
             from_settle,
@@ -222,7 +238,7 @@ six_lines_run = record {
   );
 }
 
--- ---- seven replies that are refused
+-- ---- eight replies that are refused
 
 abbrev merged_entry : Entry
 merged_entry = record {
@@ -243,11 +259,15 @@ far_alone there = by there.0 there.1 there.2
     by zero within is = (let same : Client 1 1 ≡ Merge 0 1 = ap (λ (e : Entry). e.origin) is in absurd (cc (same)))
     by (suc n) within is = absurd (let one : length far_follow ≡ 1 = refl in omega (arith, one, within))
 
-pub seven_are_refused : SevenAreRefused
-seven_are_refused = record {
+pub eight_are_refused : EightAreRefused
+eight_are_refused = record {
   below_floor = λ new says.
-      let reached : floor first_add (query_key reads_list.query) ≤ 0 = says.says.legal.reached in
-      let least : floor first_add (query_key reads_list.query) ≡ 1 = refl in
+      let reached : floor_at_start (begun_now once_written (Read reads_list)) (query_key reads_list.query) ≤ 0 = says.says.legal.reached in
+      let least : floor_at_start (begun_now once_written (Read reads_list)) (query_key reads_list.query) ≡ 1 = refl in
+      absurd (omega (arith, reached, least));
+  gone_back = λ new says.
+      let reached : floor_at_start (begun_now once_seen (Read other_reads)) (query_key other_reads.query) ≤ 0 = says.says.legal.reached in
+      let least : floor_at_start (begun_now once_seen (Read other_reads)) (query_key other_reads.query) ≡ 1 = refl in
       absurd (omega (arith, reached, least));
   not_standing = λ new stores says. elim says.says.done [
     | inl stood ↦ (

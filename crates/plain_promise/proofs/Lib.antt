@@ -1,2 +1,4 @@
+pub mod AcknowledgedLemmas
 mod ExampleLemmas
 pub mod PromiseLaws
+mod SeenLaws

@@ -37,7 +37,7 @@ one_learnt types old new (Some asked) reply session e says learnt =
     subst (λ es. Contains es e) (sym more.1) (Contains-append_left (old.learnt session) more.0 e learnt)
 
 -- one after another
-all_stand : (types : EdgeTypes) (old : Plain) (saids : List Said) (new : Plain) (shard position : ℕ) (e : Entry) → RunsPlainly types old saids new
+pub all_stand : (types : EdgeTypes) (old : Plain) (saids : List Said) (new : Plain) (shard position : ℕ) (e : Entry) → RunsPlainly types old saids new
     → entry_at (log_of old.stores.logs shard) position ≡ Some e → entry_at (log_of new.stores.logs shard) position ≡ Some e
 all_stand types old [] new shard position e runs stands =
     subst (λ (p : Plain). entry_at (log_of p.stores.logs shard) position ≡ Some e) (sym runs) stands

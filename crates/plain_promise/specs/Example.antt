@@ -1,7 +1,7 @@
--- A run of six lines, worked: a session opens, adds an edge, reads it twice, audits its list, and settles. And seven replies that are no step of the promise.
+-- A run of six lines, worked: a session opens, adds an edge, reads it twice, audits its list, and settles. And eight replies that are no step of the promise.
 use Rattle.std.specs.Prelude.{◌≡◌, ◌∷◌, ◌==◌, [], true, false, List, Some, None, if◌then◌else◌}
 use Rattle.node_name.specs.declared.NodeName.TheVariants.{Follower}
-use Rattle.plain_promise.specs.Promise.{Logs, Plain, RunsPlainly, Said, SaysPlainly}
+use Rattle.plain_promise.specs.Promise.{Logs, Plain, RunsPlainly, Said, SaysPlainly, seen_version}
 use Rattle.replies.specs.declared.calls.CallReply.TheVariants as called
 use Rattle.replies.specs.declared.calls.InverseEnd.TheVariants as inverse
 use Rattle.replies.specs.declared.calls.ReadReply.{ReadReply}
@@ -34,15 +34,11 @@ with_log log = record { logs = log ∷ []; job = λ shard position. None; epochs
 
 -- before the first line nothing was written, and nobody has learnt of anything
 abbrev pub at_first : Plain
-at_first = record { stores = with_log []; learnt = λ session. []; held = λ plan. None; settled = None }
+at_first = record { stores = with_log []; learnt = λ session. []; seen = λ session. []; held = λ plan. None; settled = None }
 
 -- once the edge is written, session 1 has learnt of its entry
 abbrev pub once_written : Plain
-once_written = record { stores = with_log first_add; learnt = λ session. if session == 1 then first_add else []; held = λ plan. None; settled = None }
-
--- once that is settled
-abbrev pub once_settled : Plain
-once_settled = record once_written { settled = Some (first_add ∷ []) }
+once_written = record at_first { stores = with_log first_add; learnt = λ session. if session == 1 then first_add else [] }
 
 -- session 1 opens
 abbrev pub opens : Said
@@ -67,6 +63,20 @@ list_from_store = record { word = word.AssocRange; answer = EdgesAre (edge 2 5 1
 -- and then by its follower
 abbrev pub list_kept : ReadReply
 list_kept = record list_from_store { hops = 0; store = false }
+
+-- once session 1 has read the list
+abbrev pub once_read : Plain
+once_read = record once_written { seen = λ session. if session == 1 then seen_version reads_list list_from_store ∷ [] else [] }
+
+-- and once more
+abbrev pub read_again : Plain
+read_again = record once_written {
+  seen = λ session. if session == 1 then seen_version reads_list list_kept ∷ seen_version reads_list list_from_store ∷ [] else [];
+}
+
+-- once that is settled
+abbrev pub once_settled : Plain
+once_settled = record read_again { settled = Some (first_add ∷ []) }
 
 -- the six lines, with their replies
 abbrev pub six_lines : List Said
@@ -111,10 +121,23 @@ both_ends = far_follow ∷ after_merges 0 [] far_follow ∷ []
 abbrev pub node_is_down : When → Reply
 node_is_down when = Refused (OfNode (NodeDown (Follower 0 0 0) when))
 
--- these seven replies are no step of the promise, whatever state they lead to
-pub record SevenAreRefused : Type 0 where
+-- session 2 reads the list
+abbrev pub other_reads : CheckedRead
+other_reads = record reads_list { session = 2 }
+
+-- once it has read it: it has learnt of no entry, and has seen version 1
+abbrev pub once_seen : Plain
+once_seen = record at_first {
+  stores = with_log first_add;
+  seen = λ session. if session == 2 then seen_version other_reads list_from_store ∷ [] else [];
+}
+
+-- these eight replies are no step of the promise, whatever state they lead to
+pub record EightAreRefused : Type 0 where
   -- a read below its session's floor
   pub below_floor : (new : Plain) → SaysPlainly one_type once_written (Some (asks.Call (Read reads_list))) (Called (called.Read list_before)) new → ⊥
+  -- a read that goes back behind the version that its session has seen
+  pub gone_back : (new : Plain) → SaysPlainly one_type once_seen (Some (asks.Call (Read other_reads))) (Called (called.Read list_before)) new → ⊥
   -- a write that is acknowledged and doesn't stand
   pub not_standing : (new : Plain) → new.stores ≡ with_log [] → SaysPlainly one_type at_first (Some adds) (Called (called.Write added_at_1)) new → ⊥
   -- a write that is refused with an entry that doesn't stand

@@ -1,8 +1,8 @@
 -- What a run promises to its caller, line by line. Nothing here speaks of caches, links or messages: only of the log of each shard with its open jobs, of
--- the entries that each session has learnt of, and of the calls that are under way.
+-- the entries that each session has learnt of and the versions that its reads have answered, and of the calls that are under way.
 use Rattle.std.specs.Prelude.{ℕ, zero, suc, ◌≡◌, ◌≤◌, ◌⊎◌, ◌++◌, ◌∷◌, [], ◌==◌, true, false, List, Contains, IsSomeAnd, Option, Some, None, ⊤}
 use Rattle.std.specs.Option.{option_map}
-use Rattle.std.specs.Prelude.{drop, if◌then◌else◌, length, map, slice_get, take}
+use Rattle.std.specs.Prelude.{drop, if◌then◌else◌, length, map, max, slice_get, take}
 use Rattle.graph_model.specs.Answers.{answer}
 use Rattle.graph_model.specs.Legal.{IsLegal, MissesNothing, floor}
 use Rattle.graph_model.specs.Log.{entry_at, version}
@@ -38,7 +38,7 @@ use Rattle.request_check.specs.declared.checked.CheckedCall.TheVariants.{Read, W
 use Rattle.request_check.specs.declared.checked.CheckedRead.{CheckedRead}
 use Rattle.request_check.specs.declared.checked.CheckedWrite.{CheckedWrite}
 use Rattle.tao_base.specs.EdgeTypes.{EdgeTypes}
-use Rattle.tao_base.specs.Keys.{key_shard}
+use Rattle.tao_base.specs.Keys.{key_shard, same_key}
 use Rattle.tao_base.specs.Queries.{query_key, query_shard}
 use Rattle.tao_base.specs.Writes.{write_shard}
 use Rattle.tao_base.specs.declared.entry.Entry.{Entry}
@@ -56,20 +56,27 @@ use Rattle.write_model.specs.Writes.{forward_entry}
 abbrev pub Logs : Type 0
 Logs = List (List Entry)
 
--- a call that is under way: what it asks; of the moment at which it began the logs, what its session has learnt of, and the logs of the last settle; and
--- the entries that its lines have added to logs since
+-- a version of a key, which a read answered
+pub record SeenVersion : Type 0 where
+  pub key : Key
+  pub version : ℕ
+
+-- a call that is under way: what it asks; of the moment at which it began the logs, what its session has learnt of and seen, and the logs of the last
+-- settle; and the entries that its lines have added to logs since
 pub record Begun : Type 0 where
   pub call : CheckedCall
   pub logs : Logs
   pub learnt : List Entry
+  pub seen : List SeenVersion
   pub settled : Option Logs
   pub added : List Entry
 
--- between two lines: the logs of all shards with their open jobs, the entries that each session has learnt of, the call that each plan holds, and the logs as
--- the last settle left them, if there was one
+-- between two lines: the logs of all shards with their open jobs, the entries that each session has learnt of, the versions that its reads have answered,
+-- the latest first, the call that each plan holds, and the logs as the last settle left them, if there was one
 pub record Plain : Type 0 where
   pub stores : Stores
   pub learnt : ℕ → List Entry
+  pub seen : ℕ → List SeenVersion
   pub held : ℕ → Option Begun
   pub settled : Option Logs
 
@@ -90,8 +97,14 @@ caller (Write call) = call.session
 
 -- a call that begins now
 abbrev pub begun_now : Plain → CheckedCall → Begun
-begun_now state call =
-    record { call = call; logs = state.stores.logs; learnt = state.learnt (caller call); settled = state.settled; added = [] }
+begun_now state call = record {
+  call = call;
+  logs = state.stores.logs;
+  learnt = state.learnt (caller call);
+  seen = state.seen (caller call);
+  settled = state.settled;
+  added = [];
+}
 
 -- a call goes on by a line: what that added to the logs is the call's
 abbrev pub went_on : Logs → Logs → Begun → Begun
@@ -99,14 +112,23 @@ went_on old new began = record began { added = began.added ++ gained old new }
 
 -- ---- reads
 
+-- the greatest version of the key among these; 0 where there is none of it
+abbrev pub last_seen : List SeenVersion → Key → ℕ
+last_seen [] key = 0
+last_seen (seen ∷ more) key = max (if same_key key seen.key then seen.version else 0) (last_seen more key)
+
+-- the version of the key that a read has at least: the greatest that its session was told of before it began, by entries that it has learnt of or by reads
+abbrev pub floor_at_start : Begun → Key → ℕ
+floor_at_start began key = max (floor began.learnt key) (last_seen began.seen key)
+
 -- the log that a read asks
 abbrev pub log_read : Logs → CheckedRead → List Entry
 log_read logs call = log_of logs (query_shard call.query)
 
--- a read answers as some beginning of its shard's log, which has all that its session has learnt of before the read began. A critical read misses nothing
--- that stood when it began. One that began after a settle, since which no log has grown, has the last version
+-- a read answers as some beginning of its shard's log, which has all that its session has learnt of and seen before the read began. A critical read misses
+-- nothing that stood when it began. One that began after a settle, since which no log has grown, has the last version
 pub record ReadsRightly (types : EdgeTypes) (began : Begun) (call : CheckedRead) (reply : ReadReply) (now : Logs) : Type 0 where
-  pub legal : IsLegal types (log_read now call) call.query (floor began.learnt (query_key call.query)) reply.answer reply.version
+  pub legal : IsLegal types (log_read now call) call.query (floor_at_start began (query_key call.query)) reply.answer reply.version
   pub whole : call.critical ≡ true → MissesNothing (log_read began.logs call) call.query reply.version
   pub last : (logs : Logs) → began.settled ≡ Some logs → AreSameLogs logs now
       → reply.version ≡ version (log_read now call) (query_key call.query)
@@ -270,6 +292,37 @@ held_after old (asks.Plan (Advance plan)) new number =
     if number == plan then option_map (went_on old.stores.logs new) (old.held number) else old.held number
 held_after old other new number = old.held number
 
+-- a version that a read of this query answered
+abbrev pub seen_version : CheckedRead → ReadReply → SeenVersion
+seen_version call reply = record { key = query_key call.query; version = reply.version }
+
+-- how the call began that a line begins or goes on with; None where the line asks for no call
+abbrev pub began_of_line : Plain → Checked → Option Begun
+began_of_line old (asks.Call call) = Some (begun_now old call)
+began_of_line old (asks.Plan (Hold plan call)) = Some (begun_now old call)
+began_of_line old (asks.Plan (Advance plan)) = old.held plan
+began_of_line old other = None
+
+-- what a call was carried out with, by the reply to its line; None where it was not
+abbrev pub carried_out : Reply → Option CallReply
+carried_out (Called reply) = Some reply
+carried_out (Plan (Ended number reply)) = Some reply
+carried_out other = None
+
+-- what a session has seen after a call was carried out: its own read has shown it a version, and no other call shows it any
+abbrev pub seen_by : CheckedCall → CallReply → ℕ → List SeenVersion → List SeenVersion
+seen_by (Read call) (called.Read reply) session seen = if session == call.session then seen_version call reply ∷ seen else seen
+seen_by call reply session seen = seen
+
+-- what a session has seen after the line of a call, which was carried out by it or not
+abbrev pub seen_with : Option Begun → Option CallReply → ℕ → List SeenVersion → List SeenVersion
+seen_with (Some began) (Some reply) session seen = seen_by began.call reply session seen
+seen_with began reply session seen = seen
+
+-- what a session has seen after a line: a read that is carried out shows its version to the session that reads, and no other line shows any
+abbrev pub seen_after : Plain → Checked → Reply → ℕ → List SeenVersion
+seen_after old asked reply session = seen_with (began_of_line old asked) (carried_out reply) session (old.seen session)
+
 -- the logs of the last settle after a line: those that a settle's Ok reply leaves
 abbrev pub settled_after : Plain → Reply → Logs → Option Logs
 settled_after old (Settled lengths) new = Some new
@@ -289,13 +342,14 @@ abbrev pub EachGrows : Logs → Logs → Type 0
 EachGrows old new = (shard : ℕ) → log_of old shard ≡ take (length (log_of old shard)) (log_of new shard)
 
 -- a line that asks something. Its reply is right. The logs changed only as what it asks does, each of them at its end, and are well kept. A session that was
--- told of an entry stays so, and a plan holds its call
+-- told of an entry stays so, has seen what its reads answered and nothing else, and a plan holds its call
 pub record KeepsPromise (types : EdgeTypes) (old : Plain) (asked : Checked) (reply : Reply) (new : Plain) : Type 0 where
   pub says : SaysRightly types old asked reply new
   pub changes : ChangesLogs types old asked new.stores.logs
   pub grows : EachGrows old.stores.logs new.stores.logs
   pub well_kept : IsWellKept types new.stores
   pub learnt : (session : ℕ) → (more : List Entry) × (new.learnt session ≡ old.learnt session ++ more)
+  pub seen : (session : ℕ) → new.seen session ≡ seen_after old asked reply session
   pub held : (plan : ℕ) → new.held plan ≡ held_after old asked new.stores.logs plan
   pub settled : new.settled ≡ settled_after old reply new.stores.logs
 
@@ -347,3 +401,43 @@ pub record StandsFromThenOn (types : EdgeTypes) (old : Plain) (saids : List Said
   pub stands : (shard position : ℕ) (entry : Entry) → RunsPlainly types old saids new → entry_at (log_of old.stores.logs shard) position ≡ Some entry
       → entry_at (log_of new.stores.logs shard) position ≡ Some entry
   pub learnt : (session : ℕ) (entry : Entry) → RunsPlainly types old saids new → Contains (old.learnt session) entry → Contains (new.learnt session) entry
+
+-- a read that was answered: how its call began, what that asks, and the answer
+pub record AnsweredRead : Type 0 where
+  pub began : Begun
+  pub call : CheckedRead
+  pub reply : ReadReply
+
+-- a line answers the read: at once, or as the last line of a call that was held
+pub record AnswersRead (old : Plain) (said : Said) (read : AnsweredRead) : Type 0 where
+  pub asked : Checked
+  pub asked_is : said.asked ≡ Some asked
+  pub began_is : began_of_line old asked ≡ Some read.began
+  pub call_is : read.began.call ≡ Read read.call
+  pub reply_is : carried_out said.reply ≡ Some (called.Read read.reply)
+
+-- one of the lines holds a call under this number
+pub record IsHeldIn (saids : List Said) (plan : ℕ) : Type 0 where
+  pub line : Said
+  pub there : Contains saids line
+  pub call : CheckedCall
+  pub holds : line.asked ≡ Some (asks.Plan (Hold plan call))
+
+-- the call of a line began after all that came before these lines: by one of them, where it is held, and else by the line itself
+abbrev pub BeganSince : List Said → Option Checked → Type 0
+BeganSince saids (Some (asks.Plan (Advance plan))) = IsHeldIn saids plan
+BeganSince saids asked = ⊤
+
+-- what a session has seen it has seen after all later lines, and each read that is answered it has seen. So where it reads a key whose version it has seen
+-- before the read began, the read answers that version, or a later one
+pub record NeverGoesBack (types : EdgeTypes) (old : Plain) (saids : List Said) (new : Plain) : Type 0 where
+  pub stays : (session : ℕ) (seen : SeenVersion) → RunsPlainly types old saids new → Contains (old.seen session) seen → Contains (new.seen session) seen
+  pub shown : (said : Said) (read : AnsweredRead) (after : Plain) → SaysPlainly types new said.asked said.reply after → AnswersRead new said read
+      → Contains (after.seen read.call.session) (seen_version read.call read.reply)
+  pub later : (said : Said) (read : AnsweredRead) (after : Plain) (seen : SeenVersion) → SaysPlainly types new said.asked said.reply after
+      → AnswersRead new said read → Contains read.began.seen seen → seen.key ≡ query_key read.call.query → seen.version ≤ read.reply.version
+  -- of two reads of a key by one session, held or not, of which the second began after the first was answered
+  pub back : (first second : Said) (a b : AnsweredRead) (before after : Plain) → SaysPlainly types before first.asked first.reply old
+      → AnswersRead before first a → RunsPlainly types old saids new → BeganSince saids second.asked
+      → SaysPlainly types new second.asked second.reply after → AnswersRead new second b → b.call.session ≡ a.call.session
+      → query_key b.call.query ≡ query_key a.call.query → a.reply.version ≤ b.reply.version

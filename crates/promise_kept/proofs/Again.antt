@@ -1,26 +1,28 @@
 -- A read that was told as kept is answered the same where the next line asks it again.
-use Rattle.std.proofs.Common.{◌≡◌, ◌≤◌, ◌||◌, ◌∙◌, ◌⊎◌, ℕ, true, false, List, Some, None, refl, sym, ap, subst, inl, inr}
+use Rattle.std.proofs.Common.{arith, max, ◌≡◌, ◌≤◌, ◌||◌, ◌∙◌, ◌⊎◌, ℕ, true, false, List, Some, None, refl, sym, ap, subst, inl, inr}
 use Rattle.core_model.proofs.Places.{one_some}
+use Rattle.core_model.specs.Pens.{pens_of}
 use Rattle.core_plans.proofs.InTurn.{IsSameRead, read_same}
 use Rattle.core_plans.proofs.WholeRuns.{OfRead, read_keeps}
-use Rattle.core_plans.specs.Held.{IsOver, StepsReadAlone, learnt_with}
+use Rattle.core_plans.specs.Held.{IsOver, StepsReadAlone}
 use Rattle.core_plans.specs.HeldReads.{ComesOfRead, DoesLook, DoesReadStage, EndsLegally, at_bound, read_is_down}
 use Rattle.core_plans.specs.LedBy.{rules_of}
 use Rattle.core_plans.specs.Needs.{first_down, read_needs}
 use Rattle.core_plans.specs.WholeCalls.{CarriesOut, PassesStage}
 use Rattle.core_plans.specs.declared.held.HeldPlan.{HeldPlan}
 use Rattle.core_plans.specs.declared.held.HeldPlan.TheVariants as of
-use Rattle.core_plans.specs.declared.held.LearntEntries.{LearntEntries}
-use Rattle.core_sessions.specs.Sessions.{Session, session_at}
+use Rattle.core_sessions.specs.Sessions.{Session, SessionLearnsVersion, session_at}
 use Rattle.core_steps.specs.Reads.{AnswersAgain}
 use Rattle.core_steps.specs.World.{World}
 use Rattle.hop_count.specs.Hops.{hops_after}
 use Rattle.node_name.specs.declared.NodeName.{NodeName}
 use Rattle.plain_promise.specs.Promise.{AreSameReplies}
+use Rattle.promise_kept.proofs.Learning.{session_here}
 use Rattle.promise_kept.proofs.Refusing.{refused_standing}
+use Rattle.promise_kept.proofs.Seeing.{reader_learns}
 use Rattle.promise_kept.specs.Lines.{IsLine, KeptAnswersAgain}
 use Rattle.read_plan.specs.Ends.{EndsAt, EndsWith}
-use Rattle.read_plan.specs.Readings.{Reading, new_reading}
+use Rattle.read_plan.specs.Readings.{Reading, new_reading, read_by}
 use Rattle.read_plan.specs.Standings.{after_look, stage_of}
 use Rattle.read_plan.specs.declared.end.ReadEnd.{ReadEnd}
 use Rattle.read_plan.specs.declared.end.ReadEnd.TheVariants as ended
@@ -38,6 +40,8 @@ use Rattle.request_check.specs.declared.checked.Checked.TheVariants as asks
 use Rattle.request_check.specs.declared.checked.CheckedCall.TheVariants as call
 use Rattle.request_check.specs.declared.checked.CheckedRead.{CheckedRead}
 use Rattle.session_pass.specs.Floors.{floor_at}
+use Rattle.shard_log.specs.View.{View, as_note}
+use Rattle.tao_base.specs.Keys.{key_shard}
 use Rattle.tao_base.specs.Queries.{query_key, query_shard}
 use Rattle.tao_core.specs.Calls.{world_of}
 use Rattle.tao_core.specs.Core.{CoreState, Moment}
@@ -65,25 +69,29 @@ first_on s p m q old new so stage =
         floor = next.floor ∙ so.same.floor;
         critical = next.critical ∙ so.same.critical;
         follower = next.follower ∙ so.same.follower;
+        reader = next.reader ∙ so.same.reader;
       };
       legal = stage.steps.steps.legal;
     }
 
--- its session learnt nothing, its follower answers again, and its floor is reached
-record FirstDone (s : Settings) (p : Reading) (a : ReadReply) (sessions : List Session) (mid : Moment) : Type 0 where
-  told : mid.core.sessions ≡ sessions
+-- its session learnt the version that it answers, which reaches its floor, and its follower answers again
+record FirstDone (s : Settings) (p : Reading) (read : CheckedRead) (a : ReadReply) (sessions : List Session) (mid : Moment) : Type 0 where
+  note : View
+  told : SessionLearnsVersion read.session (query_key read.query) a.version note sessions mid.core.sessions
   again : AnswersAgain (types_of s.schema) p.follower p.query a mid.core.fleet.followers
   least : p.floor ≤ a.version
 
-first_done : (s : Settings) (p : Reading) (a : ReadReply) (sessions : List Session) (mid : Moment) (after : HeldPlan) (told : LearntEntries)
-    → OfRead (IsFirst s p) after (world_of mid) → IsOver after (Called (called.Read a)) → LearnsOf after told sessions mid.core.sessions → a.kept ≡ Kept
-    → FirstDone s p a sessions mid
-first_done s p a sessions mid (of.Write q) told so over learns kept = absurd so
-first_done s p a sessions mid (of.Read q) told so over learns kept =
+first_done : (s : Settings) (p : Reading) (read : CheckedRead) (a : ReadReply) (sessions : List Session) (mid : Moment) (after : HeldPlan)
+    → p.query ≡ read.query → p.reader ≡ Some read.session → OfRead (IsFirst s p) after (world_of mid) → IsOver after (Called (called.Read a))
+    → LearnsOf (pens_of mid.core.fleet.stores) after (Called (called.Read a)) sessions mid.core.sessions → a.kept ≡ Kept
+    → FirstDone s p read a sessions mid
+first_done s p read a sessions mid (of.Write q) query reader so over learns kept = absurd so
+first_done s p read a sessions mid (of.Read q) query reader so over learns kept =
     let legal = so.legal a over in
     let found = legal.0 refl in
     record {
-      told = learns;
+      note = as_note (pens_of mid.core.fleet.stores (key_shard (query_key read.query)));
+      told = reader_learns (pens_of mid.core.fleet.stores) q read a sessions mid.core.sessions (so.same.query ∙ query) (so.same.reader ∙ reader) learns;
       again = subst (λ query. AnswersAgain (types_of s.schema) p.follower query a mid.core.fleet.followers) so.same.query
           (subst (λ name. AnswersAgain (types_of s.schema) name q.query a mid.core.fleet.followers) so.same.follower (legal.1 refl kept));
       least = subst (λ n. n ≤ a.version) so.same.floor found.reached;
@@ -131,7 +139,7 @@ module _ (s : Settings) (p : Reading) (start : World) (a : ReadReply) (plain : p
           (subst (λ x. DoesReadStage (rules_of true s) x p start q new) at next.does))
       by (inr down) = inr (record {
         refusal = Node (NodeDown down.node Before);
-        at = ap (λ (r : Reading). r.at) down.then ∙ refused_standing p.critical p.bound p.at (read_is_down down.node);
+        at = ap (λ (r : Reading). r.at) down.over.then ∙ refused_standing p.critical p.bound p.at (read_is_down down.node);
       })
 
   -- no stage is done of a read that is over
@@ -183,34 +191,57 @@ module _ (old mid new : Moment) (read : CheckedRead) (a b : ReadReply) (plain : 
   key_floor session = floor_at session.floors (query_key read.query)
 
   abbrev begun : Settings → Session → NodeName → Reading
-  begun s session follower = at_bound s (new_reading read.query session.region session.tier (key_floor session) read.critical follower)
+  begun s session follower =
+      read_by read.session (at_bound s (new_reading read.query session.region session.tier (key_floor session) read.critical follower))
 
   abbrev first_read : Reading
   first_read = begun old.core.settings one.begun.session one.begun.follower
 
-  done : FirstDone old.core.settings first_read a old.core.sessions mid
+  done : FirstDone old.core.settings first_read read a old.core.sessions mid
   done =
       let s = old.core.settings in
       let carries = subst (λ plan. CarriesOut (rules_of true s) plan (world_of old) one.does.after (world_of mid)) one.begun.plan_is one.does.carries in
-      first_done s first_read a old.core.sessions mid one.does.after (learnt_with (Called (called.Read a)) one.does.after)
+      first_done s first_read read a old.core.sessions mid one.does.after refl refl
       (read_keeps (rules_of true s) (IsFirst s first_read) (first_on s first_read) carries.stages first_read one.does.after (world_of old)
       (world_of mid) (record {
-        same = record { query = refl; region = refl; floor = refl; critical = refl; follower = refl };
+        same = record { query = refl; region = refl; floor = refl; critical = refl; follower = refl; reader = refl };
         legal = λ reply ends. absurd ends;
       }) carries.passes) one.does.over one.does.learns kept
 
   states : mid.core.states ≡ old.core.states
   states = ap (λ (c : CoreState). c.states) one.does.rest
 
-  same_session : one.begun.session ≡ two.begun.session
-  same_session = one_some one.begun.session two.begun.session
-      (sym one.begun.found ∙ ap (λ xs. session_at xs read.session) (sym done.told) ∙ two.begun.found)
+  -- the session is the one that began the first line, with what that taught it
+  from_first : one.begun.session ≡ done.told.from
+  from_first = one_some one.begun.session done.told.from (sym one.begun.found ∙ done.told.found)
+
+  to_second : done.told.to ≡ two.begun.session
+  to_second =
+      let number : done.told.to.session ≡ done.told.from.session = ap (λ (x : Session). x.session) done.told.learns.rest in
+      one_some done.told.to two.begun.session (sym (session_here done.told.to old.core.sessions read.session done.told.from done.told.found number)
+      ∙ ap (λ xs. session_at xs read.session) (sym done.told.is) ∙ two.begun.found)
+
+  region_same : one.begun.session.region ≡ two.begun.session.region
+  region_same = ap (λ (x : Session). x.region) from_first ∙ sym (ap (λ (x : Session). x.region) done.told.learns.rest)
+      ∙ ap (λ (x : Session). x.region) to_second
+
+  tier_same : one.begun.session.tier ≡ two.begun.session.tier
+  tier_same = ap (λ (x : Session). x.tier) from_first ∙ sym (ap (λ (x : Session). x.tier) done.told.learns.rest)
+      ∙ ap (λ (x : Session). x.tier) to_second
 
   same_follower : one.begun.follower ≡ two.begun.follower
   same_follower = one_some one.begun.follower two.begun.follower (sym one.begun.chosen
-      ∙ ap (λ (x : Session). chosen_follower old.core.states x.region x.tier (query_shard read.query)) same_session
+      ∙ ap (λ region. chosen_follower old.core.states region one.begun.session.tier (query_shard read.query)) region_same
+      ∙ ap (λ tier. chosen_follower old.core.states two.begun.session.region tier (query_shard read.query)) tier_same
       ∙ ap (λ (n : NodeStates). chosen_follower n two.begun.session.region two.begun.session.tier (query_shard read.query)) (sym states)
       ∙ two.begun.chosen)
+
+  -- its floor is now the greater of what it was and the version that it was answered: no more than that
+  floor_reached : key_floor two.begun.session ≤ a.version
+  floor_reached =
+      let now : key_floor done.told.to ≡ max (key_floor done.told.from) a.version = done.told.learns.floors.here in
+      let was : key_floor done.told.from ≤ a.version = subst (λ x. key_floor x ≤ a.version) from_first done.least in
+      subst (λ x. key_floor x ≤ a.version) to_second (omega (arith, now, was))
 
   pub same_replies : AreSameReplies a b
   same_replies =
@@ -219,8 +250,7 @@ module _ (old mid new : Moment) (read : CheckedRead) (a b : ReadReply) (plain : 
       let carries = subst (λ plan. CarriesOut (rules_of true s) plan (world_of mid) two.does.after (world_of new)) two.begun.plan_is two.does.carries in
       let again = subst (λ (x : Settings). AnswersAgain (types_of x.schema) two.begun.follower read.query a mid.core.fleet.followers) (sym settings)
       (subst (λ name. AnswersAgain (types_of old.core.settings.schema) name read.query a mid.core.fleet.followers) same_follower done.again) in
-      let least = subst (λ x. key_floor x ≤ a.version) same_session done.least in
-      second_reads s p (world_of mid) a plain refl refl refl again least two.does.after (world_of new) b carries two.does.over
+      second_reads s p (world_of mid) a plain refl refl refl again floor_reached two.does.after (world_of new) b carries two.does.over
 
 pub kept_answers_again : KeptAnswersAgain
 kept_answers_again = record {

@@ -16,9 +16,8 @@ use Rattle.core_plans.specs.declared.held.HeldPlan.{HeldPlan}
 use Rattle.core_plans.specs.declared.held.HeldPlan.TheVariants as of
 use Rattle.core_steps.specs.OtherEnds.{learnt_entry_of}
 use Rattle.core_steps.specs.World.{World}
-use Rattle.graph_model.specs.Legal.{floor}
 use Rattle.graph_model.specs.Log.{version}
-use Rattle.plain_promise.specs.Promise.{Begun, EachGrows, Logs, log_read}
+use Rattle.plain_promise.specs.Promise.{Begun, EachGrows, Logs, floor_at_start, log_read}
 use Rattle.promise_kept.proofs.Adding.{adds_same, none_in}
 use Rattle.promise_kept.proofs.Commits.{write_of}
 use Rattle.promise_kept.proofs.Entries.{HasFewTouches, entry_few}
@@ -62,6 +61,7 @@ read_steps s p q old new began read under last steps =
       query_is = same.query ∙ under.query_is;
       critical_is = same.critical ∙ under.critical_is;
       floor_is = same.floor ∙ under.floor_is;
+      reader_is = same.reader ∙ under.reader_is;
       whole = steps.steps.whole (version (log_read began.logs read) (query_key read.query)) under.whole;
       last = last;
     }
@@ -89,8 +89,8 @@ reads_on s began read start p q old new so stage = record {
 -- a read that begins at its session's floor misses nothing that stands
 pub read_begins : (s : Settings) (keepers : KeeperState) (began : Begun) (read : CheckedRead) (p : Reading) → query_shard read.query < s.shards
     → began.logs ≡ (stores_in s keepers.told).logs → p.query ≡ read.query → p.critical ≡ read.critical
-    → p.floor ≡ floor began.learnt (query_key read.query) → p.at ≡ Looking → IsReadFor s keepers began read p
-read_begins s keepers began read p here logs query critical least at =
+    → p.floor ≡ floor_at_start began (query_key read.query) → p.reader ≡ Some read.session → p.at ≡ Looking → IsReadFor s keepers began read p
+read_begins s keepers began read p here logs query critical least reader at =
     let key = query_key read.query in
     let shard = query_shard read.query in
     let stands : version (log_read began.logs read) key ≡ version_now s p keepers =
@@ -100,6 +100,7 @@ read_begins s keepers began read p here logs query critical least at =
       query_is = query;
       critical_is = critical;
       floor_is = least;
+      reader_is = reader;
       whole = nothing_is_missed_later.begun true s (version (log_read began.logs read) key) p keepers at (omega (arith, stands));
       last = λ settled is same. subst (HasComeTo (version_now s p keepers) (version_now s p keepers)) (sym at) (omega arith);
     }

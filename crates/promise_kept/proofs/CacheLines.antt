@@ -1,8 +1,9 @@
 -- The lines of cache nodes and of the link: no log changes, and what is shown of a key is what its log says.
 use Rattle.std.proofs.Common.{◌≡◌, ℕ, ◌<◌, Bool, true, false, List, Option, Some, None, refl, sym, ap, ◌∙◌, subst, inl, inr}
+use Rattle.core_model.specs.Pens.{pens_of}
 use Rattle.core_model.specs.Stores.{master_log, stores_in}
 use Rattle.core_plans.proofs.WholeRuns.{OfRead}
-use Rattle.core_plans.specs.Held.{IsOver, learnt_with}
+use Rattle.core_plans.specs.Held.{IsOver}
 use Rattle.core_plans.specs.declared.held.HeldPlan.{HeldPlan}
 use Rattle.core_plans.specs.declared.held.HeldPlan.TheVariants as of
 use Rattle.core_steps.specs.Replies.{refilled_as}
@@ -11,7 +12,9 @@ use Rattle.node_name.specs.declared.NodeName.{NodeName}
 use Rattle.plain_promise.specs.Promise.{IsShownOf, IsVersionOfSome, Logs, Plain, SaysRightly, settled_after}
 use Rattle.promise_kept.proofs.Going.{log_is, settled_rests, stores_are}
 use Rattle.promise_kept.proofs.Others.{KeepsCalls, keeps_calls, plain_with, steps_so}
+use Rattle.promise_kept.proofs.ReadLemmas.{read_reply_is}
 use Rattle.promise_kept.proofs.Refusing.{EndsRefused, ReadRests, read_rests}
+use Rattle.promise_kept.proofs.Seeing.{nobody_learns}
 use Rattle.promise_kept.proofs.StoreLines.{same_stores}
 use Rattle.promise_kept.specs.Lines.{GoesOnUsable, KeepsLine, StepsPlainly}
 use Rattle.promise_kept.specs.Seen.{IsPlainOf, IsSettledSince, stores_at}
@@ -84,11 +87,11 @@ module _ (old new : Moment) (plain : Plain) (is : IsPlainOf old plain) (on : Goe
       → SaysRightly (types_of old.core.settings.schema) plain (asks.Cache asked) reply (plain_with plain new (settled_after plain reply (stores_at new).logs))
       → StepsPlainly (Some (asks.Cache asked)) old plain reply new
   rest_so asked reply rests none says = steps_so old new plain is on rests.keeps (asks.Cache asked) reply says (same_stores old new plain is on rests.tables)
-      (λ plan. refl) (subst (IsSettledSince new) (sym (settled_same plain (stores_at new).logs reply none)) (settled_rests old new on plain.settled is.settled))
+      (λ plan. refl) (λ session. refl) (subst (IsSettledSince new) (sym (settled_same plain (stores_at new).logs reply none)) (settled_rests old new on plain.settled is.settled))
 
   link_so : (asked : CheckedLink) (reply : Reply) → Rests old new → IsNoSettle reply → StepsPlainly (Some (asks.Link asked)) old plain reply new
   link_so asked reply rests none = steps_so old new plain is on rests.keeps (asks.Link asked) reply tt (same_stores old new plain is on rests.tables)
-      (λ plan. refl) (subst (IsSettledSince new) (sym (settled_same plain (stores_at new).logs reply none)) (settled_rests old new on plain.settled is.settled))
+      (λ plan. refl) (λ session. refl) (subst (IsSettledSince new) (sym (settled_same plain (stores_at new).logs reply none)) (settled_rests old new on plain.settled is.settled))
 
 -- where only nodes change
 nodes_rest : (old new : Moment) → OnlyNodesChange old new → Rests old new
@@ -176,11 +179,12 @@ record Leaves (s : Settings) (old new : Moment) (read : Reply) : Type 0 where
   sessions : new.core.sessions ≡ old.core.sessions
   says : SaysOfRefill (stores_in s new.keepers.told).logs (refilled_as read)
 
-read_leaves : (s : Settings) (old new : Moment) (read : Reply) (after : HeldPlan) → OfRead (ReadRests s (world_of old)) after (world_of new)
-    → IsOver after read → LearnsOf after (learnt_with read after) old.core.sessions new.core.sessions → Leaves s old new read
+read_leaves : (s : Settings) (old new : Moment) (read : Reply) (after : HeldPlan) → OfRead (ReadRests s None (world_of old)) after (world_of new)
+    → IsOver after read → LearnsOf (pens_of new.core.fleet.stores) after read old.core.sessions new.core.sessions → Leaves s old new read
 read_leaves s old new read (of.Read q) rests over learns = record {
   tables = rests.tables;
-  sessions = learns;
+  sessions = nobody_learns (pens_of new.core.fleet.stores) q read old.core.sessions new.core.sessions rests.reader_is
+      (read_reply_is q read rests.refused over) learns;
   says = ends_so (stores_in s new.keepers.told).logs q.at q read rests.refused rests.answers over;
 }
 read_leaves s old new read (of.Write q) rests over learns = absurd rests
@@ -192,7 +196,7 @@ refill_rests node old new reply (inr none) =
 refill_rests node old new reply (inl goes) =
     let mid : Moment = record old { core = record old.core { fleet = record old.core.fleet { followers = goes.left } } } in
     let does = goes.does in
-    let rests = read_rests old.core.settings (world_of mid) _ does.after (world_of new) refl does.carries in
+    let rests = read_rests old.core.settings None (world_of mid) _ does.after (world_of new) refl refl does.carries in
     let leaves = read_leaves old.core.settings mid new goes.read does.after rests does.over does.learns in (
       record {
         tables = leaves.tables;

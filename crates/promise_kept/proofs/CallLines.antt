@@ -1,12 +1,15 @@
 -- The line of a call that isn't held: what it keeps whatever the call, and where no plan was begun.
 use Rattle.std.proofs.Common.{◌≡◌, ◌++◌, [], ℕ, List, Option, Some, append-nil, refl, sym, ap, subst, inl}
 use Rattle.core_model.specs.Stores.{stores_in}
+use Rattle.core_plans.specs.Held.{plan_at}
 use Rattle.core_sessions.specs.Sessions.{Session}
-use Rattle.plain_promise.specs.Promise.{Begun, CallsAlone, IsWellKept, Logs, Plain, RefusesAt, SaysOfCall, begun_now}
+use Rattle.plain_promise.specs.Promise.{Begun, CallsAlone, IsWellKept, Logs, Plain, RefusesAt, SaysOfCall, SeenVersion, begun_now, carried_out}
 use Rattle.plain_promise.specs.Promise.{refused_at}
 use Rattle.promise_kept.proofs.Going.{kept_now, stores_are}
-use Rattle.promise_kept.proofs.Resting.{grows_then, plain_rests}
+use Rattle.promise_kept.proofs.Learning.{AreAllFloors}
+use Rattle.promise_kept.proofs.Resting.{grows_then, held_rests, seen_then}
 use Rattle.promise_kept.proofs.Saying.{not_settled, plain_at}
+use Rattle.promise_kept.proofs.Seeing.{saw_after, uncarried_floors}
 use Rattle.promise_kept.specs.Lines.{IsLine, StepsPlainly}
 use Rattle.promise_kept.specs.Seen.{IsPlainOf}
 use Rattle.replies.specs.declared.refusals.NodeRefused.TheVariants.{NoServer}
@@ -57,17 +60,17 @@ unbegun_says began old new s reply refused same =
 
 -- ---- the line
 
-module _ (old new : Moment) (learnt : ℕ → List Entry) (held : ℕ → Option Begun) (settled : Option Logs)
-    (was : IsPlainOf old (plain_at old.core.settings old.keepers.told learnt held settled)) (asked : CheckedCall) (reply : Reply)
+module _ (old new : Moment) (learnt : ℕ → List Entry) (saw : ℕ → List SeenVersion) (held : ℕ → Option Begun) (settled : Option Logs)
+    (was : IsPlainOf old (plain_at old.core.settings old.keepers.told learnt saw held settled)) (asked : CheckedCall) (reply : Reply)
     (line : IsLine (asks.Call asked) old reply new) where
   abbrev s : Settings
   s = old.core.settings
 
   abbrev Before : Plain
-  Before = plain_at old.core.settings old.keepers.told learnt held settled
+  Before = plain_at old.core.settings old.keepers.told learnt saw held settled
 
   abbrev After : (ℕ → List Entry) → Plain
-  After learnt_now = plain_at old.core.settings new.keepers.told learnt_now held settled
+  After learnt_now = plain_at old.core.settings new.keepers.told learnt_now (saw_after (begun_now Before asked) reply saw) held settled
 
   abbrev Was : Stores
   Was = stores_in old.core.settings old.keepers.told
@@ -89,6 +92,7 @@ module _ (old new : Moment) (learnt : ℕ → List Entry) (held : ℕ → Option
       grows = grows_then old new line.on;
       well_kept = subst (IsWellKept (types_of s.schema)) (stores_are old new line.on) (kept_now old new line.on);
       learnt = more;
+      seen = λ session. refl;
       held = λ plan. refl;
       settled = sym (not_settled (types_of s.schema) (begun_now Before asked) Before (After learnt_now) Was.logs reply Now.logs says);
     };
@@ -98,16 +102,19 @@ module _ (old new : Moment) (learnt : ℕ → List Entry) (held : ℕ → Option
   nothing_more : (n : ℕ) → (es : List Entry) × (learnt n ≡ learnt n ++ es)
   nothing_more n = ([], sym (append-nil (learnt n)))
 
-  -- no session and no plan changed
-  pub rested : (stores : Now.logs ≡ Was.logs) → new.core.sessions ≡ old.core.sessions → new.core.plans ≡ old.core.plans
-      → SaysOfCall (types_of s.schema) (begun_now Before asked) Was.logs reply (After learnt) → Steps
-  rested stores sessions plans says =
-      call_keeps learnt nothing_more says (alone_same s old new asked stores) (plain_rests old new line.on Before was sessions plans)
+  -- no log and no plan changed, and no session learnt of an entry
+  pub rested : (stores : Now.logs ≡ Was.logs) → AreAllFloors learnt (saw_after (begun_now Before asked) reply saw) new.core.sessions
+      → new.core.plans ≡ old.core.plans → SaysOfCall (types_of s.schema) (begun_now Before asked) Was.logs reply (After learnt) → Steps
+  rested stores floors plans says =
+      call_keeps learnt nothing_more says (alone_same s old new asked stores)
+      (seen_then old new line.on Before learnt (saw_after (begun_now Before asked) reply saw) held was floors
+      (λ n plan at. held_rests old new line.on held was.held n plan (subst (λ ps. plan_at ps n ≡ Some plan) plans at)))
 
   pub refused_call : RefusesCall asked old reply new → Steps
   refused_call refuses =
       let same = refuses.same in
       let logs : Now.logs ≡ Was.logs = ap (λ (m : Moment). (stores_in s m.keepers.told).logs) same in
-      rested logs (ap (λ (m : Moment). m.core.sessions) same) (ap (λ (m : Moment). m.core.plans) same)
-      (unbegun_says (begun_now Before asked) Was.logs (After learnt) s reply
-      (not_begun old.core.states old.core.sessions asked reply refuses.refused) logs)
+      let refused = not_begun old.core.states old.core.sessions asked reply refuses.refused in
+      let were = subst (λ (m : Moment). AreAllFloors learnt saw m.core.sessions) (sym same) was.learnt in
+      rested logs (uncarried_floors learnt saw new.core.sessions were (begun_now Before asked) reply (ap carried_out refused.reply_is))
+      (ap (λ (m : Moment). m.core.plans) same) (unbegun_says (begun_now Before asked) Was.logs (After learnt) s reply refused logs)

@@ -37,7 +37,7 @@ use Rattle.write_plan.specs.declared.progress.OtherEnd.TheVariants.{Due}
 
 -- ---- entries at their places
 
-next_position : (log : List Entry) (kind : Kind) (origin : Origin) (ts : List Touch) (e : Entry) → next_entry log kind origin ts ≡ Some e
+pub next_position : (log : List Entry) (kind : Kind) (origin : Origin) (ts : List Touch) (e : Entry) → next_entry log kind origin ts ≡ Some e
     → e.position ≡ length log + 1
 next_position log kind origin [] e h = absurd (cc)
 next_position log kind origin (t ∷ ts) e h = ap (λ (x : Entry). x.position) (sym (one_some _ _ h))

@@ -69,7 +69,7 @@ pub health_line : (asked : CheckedHealth) → KeepsLine (asks.Health asked)
 health_line asked old new plain reply is line =
     let so = health_so old new reply asked line.answers in
     let settled = settled_same plain (stores_at new).logs reply so.none in
-    steps_so old new plain is line.on so.rests.keeps (asks.Health asked) reply tt (same_stores old new plain is line.on so.rests.tables) (λ plan. refl)
+    steps_so old new plain is line.on so.rests.keeps (asks.Health asked) reply tt (same_stores old new plain is line.on so.rests.tables) (λ plan. refl) (λ session. refl)
     (subst (IsSettledSince new) (sym settled) (settled_rests old new line.on plain.settled is.settled))
 
 -- ---- all lines that are no calls

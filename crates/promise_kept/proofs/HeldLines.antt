@@ -5,11 +5,12 @@ use Rattle.std.proofs.lemmas.Bool.{cases_eq, eq-eqb, ne_eqb}
 use Rattle.std.proofs.lemmas.Option.{IfSome_then}
 use Rattle.std.specs.Prelude.{◌==◌, IfSome, IsSome}
 use Rattle.core_model.proofs.Places.{one_some}
+use Rattle.core_model.specs.Pens.{pens_of}
 use Rattle.core_model.specs.Stores.{master_log, stores_in}
 use Rattle.core_plans.proofs.WholeStages.{stages_miss_nothing}
-use Rattle.core_plans.specs.Held.{IsUnderWay, OpensFirst, SetsPlan, StepsReadAlone, given_up, learner, learner_at, learnt_here}
-use Rattle.core_plans.specs.Held.{learnt_of_write, learnt_with, next_stage, plan_at}
-use Rattle.core_plans.specs.HeldReads.{HasComeTo, IsReadUnderWay, version_now}
+use Rattle.core_plans.specs.Held.{IsUnderWay, OpensFirst, SetsPlan, StepsReadAlone, learnt_here}
+use Rattle.core_plans.specs.Held.{learnt_of_write, learnt_with, next_stage, plan_at, writer_at}
+use Rattle.core_plans.specs.HeldReads.{EndsRead, HasComeTo, IsReadUnderWay, read_has_no_room, version_now}
 use Rattle.core_plans.specs.HeldWrites.{CommitsBy, ComesOfWrite, DoesWriteStage, IsBefore, IsWriteUnderWay, way_given_up, write_is_down}
 use Rattle.core_plans.specs.LedBy.{rules_of}
 use Rattle.core_plans.specs.Needs.{leaders_of_write}
@@ -18,31 +19,34 @@ use Rattle.core_plans.specs.declared.held.HeldPlan.TheVariants as of
 use Rattle.core_plans.proofs.HeldWriteStages.{before_commit}
 use Rattle.core_plans.proofs.InTurn.{IsSameRead, read_same}
 use Rattle.core_plans.specs.declared.leaders.Leaders.{Leaders}
-use Rattle.core_sessions.specs.Sessions.{Session}
 use Rattle.core_steps.specs.OtherEnds.{learnt_far}
 use Rattle.core_steps.specs.World.{World}
 use Rattle.graph_model.specs.Log.{version}
 use Rattle.plain_promise.specs.Promise.{AreSameLogs, Begun, CallsAlone, EachGrows, Logs, Plain, ReadsRightly, SaysOfCall}
-use Rattle.plain_promise.specs.Promise.{went_on}
+use Rattle.plain_promise.specs.Promise.{SeenVersion, carried_out, went_on}
 use Rattle.promise_kept.proofs.Adding.{adds_same}
 use Rattle.promise_kept.proofs.AtOnce.{few_with, has_told, here_few, read_steps}
 use Rattle.promise_kept.proofs.Commits.{write_of}
 use Rattle.promise_kept.proofs.Entries.{HasFewTouches}
 use Rattle.promise_kept.proofs.Going.{grows_on, logs_grow, same_logs, settled_rests}
-use Rattle.promise_kept.proofs.Learning.{AreFewTold, learns_both, learnt_after, learnt_grows, others_few}
+use Rattle.promise_kept.proofs.Learning.{AreAllFloors, AreFewTold, learns_both, learnt_after, learnt_grows, others_few}
 use Rattle.promise_kept.proofs.ReadLemmas.{answer_last, answer_legal, answer_whole, read_reply_is}
-use Rattle.promise_kept.proofs.Refusing.{EndsRefused, stage_refuses}
+use Rattle.promise_kept.proofs.Refusing.{EndsRefused, end_refused, end_refuses, stage_refuses}
 use Rattle.promise_kept.proofs.Resting.{grows_then, held_rests, kept_then, seen_then}
 use Rattle.promise_kept.proofs.Saying.{began_as, held_read_says, held_write_says, plain_at}
+use Rattle.promise_kept.proofs.Seeing.{read_floors, saw_after, told_floors, uncarried_floors, write_floors}
 use Rattle.promise_kept.proofs.WriteEnds.{WasDone, acknowledged, all_told, write_reply_is}
 use Rattle.promise_kept.proofs.WriteStages.{IsRefusedSo, KeepsStage, WritesSoFar, ran_alone, ran_begins}
 use Rattle.promise_kept.proofs.WritesOn.{gives_up_on, refused_rests, writes_on}
 use Rattle.promise_kept.specs.Lines.{GoesOnUsable}
-use Rattle.promise_kept.specs.Seen.{AreBegun, FloorsAre, HasLast, HasWritten, IsAnsweredFor, IsPlainOf, IsPlanOf, IsReadFor, IsSettledSince, IsUnderWayFor}
+use Rattle.promise_kept.specs.Seen.{AreBegun, HasLast, HasWritten, IsAnsweredFor, IsPlainOf, IsPlanOf, IsReadFor, IsSettledSince, IsUnderWayFor}
 use Rattle.promise_kept.specs.Seen.{IsWriteFor}
-use Rattle.promise_kept.specs.Seen.{floors_of, stores_at}
-use Rattle.read_plan.specs.Ends.{EndsWith}
+use Rattle.promise_kept.specs.Seen.{stores_at}
+use Rattle.read_plan.specs.Ends.{EndsAt, EndsWith}
 use Rattle.read_plan.specs.Readings.{Reading}
+use Rattle.read_plan.specs.Standings.{stage_named, stage_of}
+use Rattle.read_plan.specs.declared.end.ReadEnd.TheVariants as ended
+use Rattle.read_plan.specs.declared.standing.Standing.TheVariants.{Ended}
 use Rattle.replies.specs.declared.calls.CallReply.TheVariants as called
 use Rattle.replies.specs.declared.calls.ReadReply.{ReadReply}
 use Rattle.replies.specs.declared.plans.PlanReply.TheVariants.{Next}
@@ -59,7 +63,7 @@ use Rattle.tao_base.specs.declared.entry.Entry.{Entry}
 use Rattle.tao_core.proofs.WriteStages.{end_keeps, inverse_keeps, stage_left, unrefused}
 use Rattle.tao_core.specs.Calls.{world_of}
 use Rattle.tao_core.specs.Core.{Moment, author}
-use Rattle.tao_core.specs.HeldCalls.{Advances, GoesOnHeld, Leaves, StepsAt, held_in, numbered_plan}
+use Rattle.tao_core.specs.HeldCalls.{Advances, EndsPlan, GoesOnHeld, Leaves, StepsAt, held_in, numbered_plan}
 use Rattle.tao_keeper.specs.declared.jobs.Job.{Job}
 use Rattle.tao_schema.specs.Schema.{types_of}
 use Rattle.topology.specs.Config.{Settings}
@@ -124,7 +128,7 @@ module _ (s : Settings) (p q : Writing) (old new : World) (before : IsBefore p.b
 
 -- memory was wanting for what its session is to learn: it is gone, and nothing else changed
 pub record GivesUpWrite (p q : Writing) (old new : World) : Type 0 where
-  pub last : IsSome (learner_at (next_of p) p.origin)
+  pub last : IsSome (writer_at (next_of p) p.origin)
   pub gone : q ≡ way_given_up p
   pub same : new ≡ old
 
@@ -134,17 +138,17 @@ AdvancesWrite s p old q new = ComesOfWrite (rules_of true s) p old q new ⊎ Giv
 
 -- ---- what a step of a held call keeps
 
-module _ (old new : Moment) (learnt : ℕ → List Entry) (held : ℕ → Option Begun) (settled : Option Logs)
-    (was : IsPlainOf old (plain_at old.core.settings old.keepers.told learnt held settled)) (on : GoesOnUsable old new) (asked : PlanWord) (number : ℕ)
+module _ (old new : Moment) (learnt : ℕ → List Entry) (saw : ℕ → List SeenVersion) (held : ℕ → Option Begun) (settled : Option Logs)
+    (was : IsPlainOf old (plain_at old.core.settings old.keepers.told learnt saw held settled)) (on : GoesOnUsable old new) (asked : PlanWord) (number : ℕ)
     (reply : Reply) (held_now : ℕ → Option Begun) (others : (n : ℕ) → (n ≡ number → ⊥) → held_now n ≡ held n) where
   abbrev s : Settings
   s = old.core.settings
 
   abbrev Before : Plain
-  Before = plain_at old.core.settings old.keepers.told learnt held settled
+  Before = plain_at old.core.settings old.keepers.told learnt saw held settled
 
-  abbrev After : (ℕ → List Entry) → Plain
-  After learnt_now = plain_at old.core.settings new.keepers.told learnt_now held_now settled
+  abbrev After : Begun → (ℕ → List Entry) → Plain
+  After began learnt_now = plain_at old.core.settings new.keepers.told learnt_now (saw_after began reply saw) held_now settled
 
   abbrev Was : Stores
   Was = stores_in old.core.settings old.keepers.told
@@ -160,9 +164,9 @@ module _ (old new : Moment) (learnt : ℕ → List Entry) (held : ℕ → Option
   pub record StepKept (began : Begun) : Type 0 where
     pub learnt_now : ℕ → List Entry
     pub more : (n : ℕ) → (es : List Entry) × (learnt_now n ≡ learnt n ++ es)
-    pub says : SaysOfCall (types_of s.schema) began Was.logs reply (After learnt_now)
+    pub says : SaysOfCall (types_of s.schema) began Was.logs reply (After began learnt_now)
     pub changes : CallsAlone (types_of s.schema) began.call Was Now.logs
-    pub seen : IsPlainOf new (After learnt_now)
+    pub seen : IsPlainOf new (After began learnt_now)
 
   nothing_more : (n : ℕ) → (es : List Entry) × (learnt n ≡ learnt n ++ es)
   nothing_more n = ([], sym (append-nil (learnt n)))
@@ -206,94 +210,130 @@ module _ (old new : Moment) (learnt : ℕ → List Entry) (held : ℕ → Option
     goes_so after stage goes under changes = record {
       learnt_now = learnt;
       more = nothing_more;
-      says = subst (λ r. SaysOfCall (types_of s.schema) began Was.logs r (After learnt)) (sym goes.told) tt;
+      says = subst (λ r. SaysOfCall (types_of s.schema) began Was.logs r (After began learnt)) (sym goes.told) tt;
       changes = changes;
-      seen = seen_then old new on Before learnt held_now was
-          (λ n. subst (λ (opened : List Session). FloorsAre (learnt n) (floors_of opened n)) (sym goes.sessions) (was.learnt n))
+      seen = seen_then old new on Before learnt (saw_after began reply saw) held_now was
+          (uncarried_floors learnt saw new.core.sessions (subst (AreAllFloors learnt saw) (sym goes.sessions) was.learnt) began reply
+          (ap carried_out goes.told))
           (begun_sets (Some after) goes.changes.sets (λ plan is. held_on after plan under is));
     }
 
     -- it ended, and is gone
     ends_so : (learnt_now : ℕ → List Entry) → SetsPlan number None old.core.plans new.core.plans
-        → ((n : ℕ) → (es : List Entry) × (learnt_now n ≡ learnt n ++ es)) → ((n : ℕ) → FloorsAre (learnt_now n) (floors_of new.core.sessions n))
-        → SaysOfCall (types_of s.schema) began Was.logs reply (After learnt_now) → CallsAlone (types_of s.schema) began.call Was Now.logs → StepKept began
+        → ((n : ℕ) → (es : List Entry) × (learnt_now n ≡ learnt n ++ es)) → AreAllFloors learnt_now (saw_after began reply saw) new.core.sessions
+        → SaysOfCall (types_of s.schema) began Was.logs reply (After began learnt_now) → CallsAlone (types_of s.schema) began.call Was Now.logs → StepKept began
     ends_so learnt_now sets more floors says changes = record {
       learnt_now = learnt_now;
       more = more;
       says = says;
       changes = changes;
-      seen = seen_then old new on Before learnt_now held_now was floors
+      seen = seen_then old new on Before learnt_now (saw_after began reply saw) held_now was floors
           (begun_sets None sets (λ plan is. (let gone : None ≡ Some plan = is in absurd (cc))));
     }
 
   -- ---- a read
 
   module _ (read : CheckedRead) (first : Begun) (p q : Reading) (is_plan : IsPlanOf old (of.Read p) (began_as (call.Read read) first))
-      (holds : held_now number ≡ Some (Then (began_as (call.Read read) first))) (under : IsReadUnderWay true s old.keepers.told old.core.fleet p)
-      (steps : StepsReadAlone (rules_of true s) p (world_of old) q (world_of new)) where
+      (holds : held_now number ≡ Some (Then (began_as (call.Read read) first))) where
     abbrev Began : Begun
     Began = began_as (call.Read read) first
 
     was_for : IsReadFor s old.keepers Began read p
     was_for = is_plan.under_way
 
-    logs : Now.logs ≡ Was.logs
-    logs = same_logs s old.keepers new.keepers steps.tables
+    abbrev IsRight : Reply → Type 0
+    IsRight ended = (answer : ReadReply) → ended ≡ replied.Called (called.Read answer) → ReadsRightly (types_of s.schema) Began read answer Now.logs
 
-    same_read : IsSameRead p q
-    same_read = read_same p q (world_of old) (world_of new) (rules_of true s) steps.steps.does
+    -- it is over: its session has seen what it is answered
+    read_over : q.query ≡ read.query → q.reader ≡ Some read.session → Now.logs ≡ Was.logs → EndsRefused q.at
+        → ((ended : Reply) → EndsWith q ended → IsRight ended) → EndsPlan number (of.Read q) (held_in old.core) reply (held_in new.core) → StepKept Began
+    read_over query reader logs so right ends =
+        let replies = read_reply_is q ends.ended so ends.over in
+        ends_so Began is_plan.grows is_plan.settled holds learnt ends.takes.sets nothing_more
+        (told_floors Began number reply ends.ended learnt saw new.core.sessions ends.told
+        (read_floors (pens_of new.core.fleet.stores) first read q ends.ended old.core.sessions new.core.sessions learnt saw query reader replies ends.learns
+        was.learnt))
+        (subst (λ r. SaysOfCall (types_of s.schema) Began Was.logs r (After Began learnt)) (sym ends.told)
+        (held_read_says (types_of s.schema) first read Was.logs (After Began learnt) ends.ended replies logs (right ends.ended ends.over) number)) logs
 
-    version_stays : version_now s p old.keepers ≡ version_now s q new.keepers
-    version_stays =
-        let tables : new.keepers.told ≡ old.keepers.told = λ i at. steps.tables refl at i in
-        sym (ap (λ query. version (master_log s new.keepers.told (query_shard query)) (query_key query)) same_read.query
-        ∙ ap (λ t. version (master_log s t (query_shard p.query)) (query_key p.query)) tables)
+    -- ---- it ends in place of its next stage
 
-    -- after a settle, until a log grows, no stage misses anything
-    last_then : HasLast s new.keepers Began.settled q
-    last_then settled_logs since same =
-        let before : AreSameLogs settled_logs Was.logs = λ shard. ap (λ l. log_of l shard) (sym logs) ∙ same shard in
-        let come = (stages_miss_nothing s p q (world_of old) (world_of new)).whole steps.steps on.before.is_consistent.consistent
-        (is_plan.settled.rests settled_logs since before) on.after.grows.logs (version_now s p old.keepers) (was_for.last settled_logs since before) in
-        subst (λ n. HasComeTo n (version_now s q new.keepers) q.at) version_stays come
+    module _ (gives : EndsRead read_has_no_room p (world_of old) q (world_of new)) where
+      at_end : q.at ≡ Ended (ended.Refused read_has_no_room)
+      at_end = end_refused read_has_no_room p q (world_of old) (world_of new) gives
 
-    for_then : IsReadFor s new.keepers Began read q
-    for_then = read_steps s p q (world_of old) (world_of new) Began read was_for last_then steps
+      never_right : (ended : Reply) → EndsWith q ended → IsRight ended
+      never_right ended over answer is =
+          let own : ended ≡ read_has_no_room = subst (λ a. EndsAt a q ended) at_end over in
+          let never : replied.Called (called.Read answer) ≡ read_has_no_room = sym is ∙ own in
+          absurd (cc (never))
 
-    -- what its lines add is nothing to a read
-    for_later : IsReadFor s new.keepers (Then Began) read q
-    for_later = record {
-      query_is = for_then.query_is;
-      critical_is = for_then.critical_is;
-      floor_is = for_then.floor_is;
-      whole = for_then.whole;
-      last = for_then.last;
-    }
+      pub read_gives_up : Leaves asked (numbered_plan number (of.Read q)) (next_stage (of.Read q)) (held_in old.core) reply (held_in new.core) → StepKept Began
+      read_gives_up leaves =
+          let over : next_stage (of.Read q) ≡ None = subst (λ a. stage_named (stage_of a) ≡ None) (sym at_end) refl in
+          read_over (ap (λ (r : Reading). r.query) gives.then ∙ was_for.query_is) (ap (λ (r : Reading). r.reader) gives.then ∙ was_for.reader_is)
+          (ap (λ (x : World). (stores_in s x.keepers.told).logs) gives.rest)
+          (end_refuses read_has_no_room p q (world_of old) (world_of new) gives (_, refl)) never_right
+          (subst (λ next. Leaves asked (numbered_plan number (of.Read q)) next (held_in old.core) reply (held_in new.core)) over leaves)
 
-    so : EndsRefused q.at
-    so = stage_refuses (rules_of true s) p q (world_of old) (world_of new) steps.steps.does
+    -- ---- its next stage
 
-    here : query_shard q.query < s.shards
-    here = subst (λ query. query_shard query < s.shards) (sym same_read.query) under.follower.here
+    module _ (under : IsReadUnderWay true s old.keepers.told old.core.fleet p)
+        (steps : StepsReadAlone (rules_of true s) p (world_of old) q (world_of new)) where
+      logs : Now.logs ≡ Was.logs
+      logs = same_logs s old.keepers new.keepers steps.tables
 
-    right : (ended : Reply) → EndsWith q ended → (answer : ReadReply) → ended ≡ replied.Called (called.Read answer)
-        → ReadsRightly (types_of s.schema) Began read answer Now.logs
-    right ended over answer is =
-        let ends = subst (EndsWith q) is over in
-        let legal = (steps.steps.legal answer ends).0 in
-        record {
-          legal = answer_legal s new.keepers Began read q for_then here so answer ends legal;
-          whole = answer_whole s new.keepers Began read q for_then here so answer ends;
-          last = answer_last s new.keepers Began read q for_then here so answer ends legal;
-        }
+      same_read : IsSameRead p q
+      same_read = read_same p q (world_of old) (world_of new) (rules_of true s) steps.steps.does
 
-    pub read_kept : (next : Option Stage) → Leaves asked (numbered_plan number (of.Read q)) next (held_in old.core) reply (held_in new.core) → StepKept Began
-    read_kept (Some stage) goes = goes_so Began is_plan.grows is_plan.settled holds (of.Read q) stage goes for_later logs
-    read_kept None ends = ends_so Began is_plan.grows is_plan.settled holds learnt ends.takes.sets nothing_more
-        (λ n. subst (λ (opened : List Session). FloorsAre (learnt n) (floors_of opened n)) (sym ends.learns) (was.learnt n))
-        (subst (λ r. SaysOfCall (types_of s.schema) Began Was.logs r (After learnt)) (sym ends.told)
-        (held_read_says (types_of s.schema) first read Was.logs (After learnt) ends.ended (read_reply_is q ends.ended so ends.over) logs
-        (right ends.ended ends.over) number)) logs
+      version_stays : version_now s p old.keepers ≡ version_now s q new.keepers
+      version_stays =
+          let tables : new.keepers.told ≡ old.keepers.told = λ i at. steps.tables refl at i in
+          sym (ap (λ query. version (master_log s new.keepers.told (query_shard query)) (query_key query)) same_read.query
+          ∙ ap (λ t. version (master_log s t (query_shard p.query)) (query_key p.query)) tables)
+
+      -- after a settle, until a log grows, no stage misses anything
+      last_then : HasLast s new.keepers Began.settled q
+      last_then settled_logs since same =
+          let before : AreSameLogs settled_logs Was.logs = λ shard. ap (λ l. log_of l shard) (sym logs) ∙ same shard in
+          let come = (stages_miss_nothing s p q (world_of old) (world_of new)).whole steps.steps on.before.is_consistent.consistent
+          (is_plan.settled.rests settled_logs since before) on.after.grows.logs (version_now s p old.keepers) (was_for.last settled_logs since before) in
+          subst (λ n. HasComeTo n (version_now s q new.keepers) q.at) version_stays come
+
+      for_then : IsReadFor s new.keepers Began read q
+      for_then = read_steps s p q (world_of old) (world_of new) Began read was_for last_then steps
+
+      -- what its lines add is nothing to a read
+      for_later : IsReadFor s new.keepers (Then Began) read q
+      for_later = record {
+        query_is = for_then.query_is;
+        critical_is = for_then.critical_is;
+        floor_is = for_then.floor_is;
+        reader_is = for_then.reader_is;
+        whole = for_then.whole;
+        last = for_then.last;
+      }
+
+      so : EndsRefused q.at
+      so = stage_refuses (rules_of true s) p q (world_of old) (world_of new) steps.steps.does
+
+      here : query_shard q.query < s.shards
+      here = subst (λ query. query_shard query < s.shards) (sym same_read.query) under.follower.here
+
+      right : (ended : Reply) → EndsWith q ended → IsRight ended
+      right ended over answer is =
+          let ends = subst (EndsWith q) is over in
+          let legal = (steps.steps.legal answer ends).0 in
+          record {
+            legal = answer_legal s new.keepers Began read q for_then here so answer ends legal;
+            whole = answer_whole s new.keepers Began read q for_then here so answer ends;
+            last = answer_last s new.keepers Began read q for_then here so answer ends legal;
+          }
+
+      pub read_kept : (next : Option Stage) → Leaves asked (numbered_plan number (of.Read q)) next (held_in old.core) reply (held_in new.core)
+          → StepKept Began
+      read_kept (Some stage) goes = goes_so Began is_plan.grows is_plan.settled holds (of.Read q) stage goes for_later logs
+      read_kept None ends = read_over for_then.query_is for_then.reader_is logs so right ends
 
   -- ---- a write
 
@@ -324,7 +364,7 @@ module _ (old new : Moment) (learnt : ℕ → List Entry) (held : ℕ → Option
     write_keeps = record { grows = grows_then old new on; was = on.before.is_consistent.consistent.stores.kept refl; now = kept_then old new on }
 
     -- only before its last stage may it end without it
-    given_so : (at : WriteStage) → next_of p ≡ at → IsSome (learner_at at p.origin) → GivesUpWrite p q (world_of old) (world_of new)
+    given_so : (at : WriteStage) → next_of p ≡ at → IsSome (writer_at at p.origin) → GivesUpWrite p q (world_of old) (world_of new)
         → WritesSoFar s BeganWrite write Was.logs q new.keepers
     given_so Apply at last gives =
         let logs : Now.logs ≡ Was.logs = ap (λ (x : World). (stores_in s x.keepers.told).logs) gives.same in
@@ -391,45 +431,37 @@ module _ (old new : Moment) (learnt : ℕ → List Entry) (held : ℕ → Option
         let who = author q.origin in
         let replies = write_reply_is s BeganWrite write Was.logs q new.keepers write_so ended ends.over in
         let learnt_now = learnt_after who told learnt in
+        let saw_now = saw_after BeganWrite reply saw in
         ends_so BeganWrite is_plan.grows is_plan.settled holds learnt_now ends.takes.sets (learnt_grows who told learnt)
-        (learns_both who told old.core.sessions new.core.sessions learnt (few_told ended over replies) ends.learns was.learnt)
-        (subst (λ r. SaysOfCall (types_of s.schema) BeganWrite Was.logs r (After learnt_now)) (sym ends.told)
-        (held_write_says s old.keepers.told new.keepers.told first write learnt_now held_now settled q ended
+        (write_floors learnt_now saw new.core.sessions
+        (learns_both who told old.core.sessions new.core.sessions learnt saw (few_told ended over replies) ends.learns was.learnt) first write reply)
+        (subst (λ r. SaysOfCall (types_of s.schema) BeganWrite Was.logs r (After BeganWrite learnt_now)) (sym ends.told)
+        (held_write_says s old.keepers.told new.keepers.told first write learnt_now saw_now held_now settled q ended
         (λ c committed_is unrefused reply_is. acknowledged s BeganWrite write Was.logs q new.keepers write_so over c committed_is unrefused
-        learnt_now held_now settled (has_told s BeganWrite write Was.logs q new.keepers write_so ended learnt c reply_is))
+        learnt_now saw_now held_now settled (has_told s BeganWrite write Was.logs q new.keepers write_so ended learnt c reply_is))
         number replies)) write_changes
 
   -- ---- whatever the call
-
-  -- a write ends without its last stage
-  given_by : (one : CheckedCall) (first : Begun) (before : HeldPlan) → IsPlanOf old before (began_as one first)
-      → held_now number ≡ Some (Then (began_as one first)) → IsUnderWay true s old.keepers.told old.core.fleet before → OpensFirst before
-      → IsSome (next_stage before) → IsSome (learner before) → world_of new ≡ world_of old
-      → Leaves asked (numbered_plan number (given_up before)) (next_stage (given_up before)) (held_in old.core) reply (held_in new.core)
-      → StepKept (began_as one first)
-  given_by (call.Write write) first (of.Write p) is_plan holds under ahead some last same leaves =
-      write_kept write first p (way_given_up p) is_plan holds under ahead some (inr (record { last = last; gone = refl; same = same }))
-      (next_stage (of.Write (way_given_up p))) refl leaves
-  given_by (call.Read read) first (of.Read p) is_plan holds under ahead some last same leaves = (let e : false ≡ true = last in absurd (cc))
-  given_by (call.Read read) first (of.Write p) is_plan holds under ahead some last same leaves = absurd is_plan.under_way
-  given_by (call.Write write) first (of.Read p) is_plan holds under ahead some last same leaves = absurd is_plan.under_way
 
   kept_by : (one : CheckedCall) (first : Begun) (before after : HeldPlan) → IsPlanOf old before (began_as one first)
       → held_now number ≡ Some (Then (began_as one first)) → IsUnderWay true s old.keepers.told old.core.fleet before → OpensFirst before
       → IsSome (next_stage before) → Advances (rules_of true s) before (world_of old) after (world_of new)
       → Leaves asked (numbered_plan number after) (next_stage after) (held_in old.core) reply (held_in new.core) → StepKept (began_as one first)
-  kept_by one first before after is_plan holds under ahead some (inr ends) leaves =
-      subst
-      (λ a. Leaves asked (numbered_plan number a) (next_stage a) (held_in old.core) reply (held_in new.core) → StepKept (began_as one first))
-      (sym ends.then) (given_by one first before is_plan holds under ahead some ends.last ends.same) leaves
   kept_by (call.Read read) first (of.Read p) (of.Read q) is_plan holds under ahead some (inl steps) leaves =
       read_kept read first p q is_plan holds under steps (next_stage (of.Read q)) leaves
+  kept_by (call.Read read) first (of.Read p) (of.Read q) is_plan holds under ahead some (inr ends) leaves =
+      read_gives_up read first p q is_plan holds ends.gives leaves
   kept_by (call.Write write) first (of.Write p) (of.Write q) is_plan holds under ahead some (inl steps) leaves =
       write_kept write first p q is_plan holds under ahead some (inl steps) (next_stage (of.Write q)) refl leaves
+  kept_by (call.Write write) first (of.Write p) (of.Write q) is_plan holds under ahead some (inr ends) leaves =
+      write_kept write first p q is_plan holds under ahead some (inr (record { last = ends.last; gone = ends.gives.0; same = ends.gives.1 }))
+      (next_stage (of.Write q)) refl leaves
   kept_by one first (of.Read p) (of.Write q) is_plan holds under ahead some (inl steps) leaves = absurd steps
   kept_by one first (of.Write p) (of.Read q) is_plan holds under ahead some (inl steps) leaves = absurd steps
-  kept_by (call.Read read) first (of.Write p) (of.Write q) is_plan holds under ahead some (inl steps) leaves = absurd is_plan.under_way
-  kept_by (call.Write write) first (of.Read p) (of.Read q) is_plan holds under ahead some (inl steps) leaves = absurd is_plan.under_way
+  kept_by one first (of.Read p) (of.Write q) is_plan holds under ahead some (inr ends) leaves = absurd ends.gives
+  kept_by one first (of.Write p) (of.Read q) is_plan holds under ahead some (inr ends) leaves = absurd ends.gives
+  kept_by (call.Read read) first (of.Write p) (of.Write q) is_plan holds under ahead some steps leaves = absurd is_plan.under_way
+  kept_by (call.Write write) first (of.Read p) (of.Read q) is_plan holds under ahead some steps leaves = absurd is_plan.under_way
 
   pub step_kept : (steps : StepsAt true asked number old reply new) (began : Begun) → IsPlanOf old steps.before began
       → held_now number ≡ Some (Then began) → StepKept began

@@ -16,7 +16,7 @@ use Rattle.tao_core.specs.Core.{Moment}
 
 -- a plain state, with the stores as the keepers tell them
 abbrev told_plain : Moment → Plain → Plain
-told_plain m plain = plain_at m.core.settings m.keepers.told plain.learnt plain.held plain.settled
+told_plain m plain = plain_at m.core.settings m.keepers.told plain.learnt plain.seen plain.held plain.settled
 
 told_so : (m : Moment) (plain : Plain) → IsPlainOf m plain → IsPlainOf m (told_plain m plain)
 told_so m plain is = record { stores = refl; learnt = is.learnt; held = is.held; settled = is.settled }
@@ -29,15 +29,15 @@ from_told asked old plain reply new is steps =
 
 pub calls_keep : (asked : CheckedCall) → KeepsLine (asks.Call asked)
 calls_keep asked old new plain reply is line = from_told (asks.Call asked) old plain reply new is
-    (call_line old new plain.learnt plain.held plain.settled asked reply (told_so old plain is) line)
+    (call_line old new plain.learnt plain.seen plain.held plain.settled asked reply (told_so old plain is) line)
 
 pub plans_keep : (asked : CheckedPlan) → KeepsLine (asks.Plan asked)
 plans_keep asked old new plain reply is line = from_told (asks.Plan asked) old plain reply new is
-    (plan_line old new plain.learnt plain.held plain.settled asked reply (told_so old plain is) line)
+    (plan_line old new plain.learnt plain.seen plain.held plain.settled asked reply (told_so old plain is) line)
 
 pub opens_keep : (session region tier : ℕ) → KeepsLine (asks.Open session region tier)
 opens_keep session region tier old new plain reply is line = from_told (asks.Open session region tier) old plain reply new is
-    (open_line old new plain.learnt plain.held plain.settled (told_so old plain is) session region tier reply line)
+    (open_line old new plain.learnt plain.seen plain.held plain.settled (told_so old plain is) session region tier reply line)
 
 pub calls_keep_promise : CallsKeepPromise
 calls_keep_promise = record { opens = opens_keep; calls = calls_keep; plans = plans_keep }

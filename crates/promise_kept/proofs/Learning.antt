@@ -1,4 +1,4 @@
--- What a session learns of a write, as its floors and the plain state have it.
+-- What a session learns of a write, and sees by a read, as its floors and the plain state have it.
 use Rattle.std.proofs.Common.{arith, ◌≡◌, ◌≢◌, ◌<◌, ◌∙◌, ◌++◌, ◌∷◌, [], ℕ, Bool, true, false, List, Option, Some, None, append-nil, append_assoc, refl, sym}
 use Rattle.std.proofs.Common.{ap, subst, inl, inr, if◌then◌else◌}
 use Rattle.std.proofs.lemmas.Bool.{cases_Bool, cases_eq, eq-eqb, eqb-true, ne_eqb}
@@ -14,14 +14,15 @@ use Rattle.core_model.specs.Stores.{AreStoresOf, HaveMasterRegions, master_log}
 use Rattle.core_model.specs.Writes.{IsSeenEntry}
 use Rattle.core_plans.specs.HeldWrites.{IsWriteUnderWay}
 use Rattle.core_plans.specs.declared.held.LearntEntries.{LearntEntries}
-use Rattle.core_sessions.specs.Sessions.{Session, SessionLearns, session_at, with_changed}
+use Rattle.core_sessions.specs.Sessions.{Session, SessionLearns, SessionLearnsVersion, session_at, with_changed}
 use Rattle.core_steps.proofs.ReadLemmas.{log_is}
 use Rattle.core_steps.proofs.WriteLemmas.{stands_in_log}
 use Rattle.core_steps.specs.OtherEnds.{StandsThere, learnt_far}
 use Rattle.core_steps.specs.declared.jobs.LearntEntry.{LearntEntry}
 use Rattle.graph_model.specs.Log.{entry_at}
+use Rattle.plain_promise.specs.Promise.{SeenVersion}
 use Rattle.promise_kept.proofs.Entries.{HasFewTouches, entry_few}
-use Rattle.promise_kept.proofs.Floors.{floors_learn}
+use Rattle.promise_kept.proofs.Floors.{floors_learn, floors_see}
 use Rattle.promise_kept.specs.Seen.{FloorsAre, IsToldOf, IsWhatIsTold, floors_of}
 use Rattle.shard_log.specs.View.{View}
 use Rattle.shard_tables.specs.StoreView.{Store}
@@ -60,12 +61,15 @@ module _ (to : Session) (xs : List Session) where
   changed_at : (n : ℕ) → session_at (with_changed to xs) n ≡ option_map Changed (session_at xs n)
   changed_at n = find_map Changed (λ (x : Session). x.session == n) (λ x. ap (λ m. m == n) (same_number to x)) xs
 
-  -- the floors of the one that changed
-  floors_here : (n : ℕ) (from : Session) → session_at xs n ≡ Some from → to.session ≡ from.session → floors_of (with_changed to xs) n ≡ to.floors
-  floors_here n from found same =
+  pub session_here : (n : ℕ) (from : Session) → session_at xs n ≡ Some from → to.session ≡ from.session → session_at (with_changed to xs) n ≡ Some to
+  session_here n from found same =
       let own : (from.session == to.session) ≡ true = eq-eqb from.session to.session (sym same) in
       let there : Changed from ≡ to = rw own refl in
-      ap (λ o. option_map_or (λ (s : Session). s.floors) o []) (changed_at n ∙ ap (option_map Changed) found ∙ ap Some there)
+      changed_at n ∙ ap (option_map Changed) found ∙ ap Some there
+
+  -- the floors of the one that changed
+  floors_here : (n : ℕ) (from : Session) → session_at xs n ≡ Some from → to.session ≡ from.session → floors_of (with_changed to xs) n ≡ to.floors
+  floors_here n from found same = ap (λ o. option_map_or (λ (s : Session). s.floors) o []) (session_here n from found same)
 
   -- and of each other
   floors_there : (n : ℕ) → to.session ≢ n → floors_of (with_changed to xs) n ≡ floors_of xs n
@@ -79,6 +83,34 @@ module _ (to : Session) (xs : List Session) where
         | inr isnt ↦ rw isnt refl
       ]
 
+-- ---- one session learns
+
+-- each session's floors are those of what it has learnt of and seen
+abbrev pub AreAllFloors : (ℕ → List Entry) → (ℕ → List SeenVersion) → List Session → Type 0
+AreAllFloors learnt saw sessions = (n : ℕ) → FloorsAre (learnt n) (saw n) (floors_of sessions n)
+
+-- one session has learnt of or seen more, and its floors are those of that; nothing else changed
+record LearnsAlone (number : ℕ) (from to : Session) (learnt learnt_now : ℕ → List Entry) (saw saw_now : ℕ → List SeenVersion) : Type 0 where
+  same : to.session ≡ from.session
+  here : FloorsAre (learnt number) (saw number) from.floors → FloorsAre (learnt_now number) (saw_now number) to.floors
+  others : (n : ℕ) → n ≢ number → (learnt_now n ≡ learnt n) × (saw_now n ≡ saw n)
+
+learns_alone : (number : ℕ) (from to : Session) (old : List Session) (learnt learnt_now : ℕ → List Entry) (saw saw_now : ℕ → List SeenVersion)
+    → session_at old number ≡ Some from → LearnsAlone number from to learnt learnt_now saw saw_now → AreAllFloors learnt saw old
+    → AreAllFloors learnt_now saw_now (with_changed to old)
+learns_alone number from to old learnt learnt_now saw saw_now found learns were n = elim (cases_eq n number) [
+  | inl is ↦
+      let was : FloorsAre (learnt number) (saw number) from.floors =
+      subst (λ o. FloorsAre (learnt number) (saw number) (option_map_or (λ (s : Session). s.floors) o [])) found (were number) in
+      subst (λ k. FloorsAre (learnt_now k) (saw_now k) (floors_of (with_changed to old) k)) (sym is)
+      (subst (FloorsAre (learnt_now number) (saw_now number)) (sym (floors_here to old number from found learns.same)) (learns.here was))
+  | inr apart ↦
+      let other : to.session ≢ n = λ same. apart (sym same ∙ learns.same ∙ found_number number old from found) in
+      let stays = learns.others n apart in
+      subst (FloorsAre (learnt_now n) (saw_now n)) (sym (floors_there to old n other))
+      (subst (λ es. FloorsAre es (saw_now n) (floors_of old n)) (sym stays.0) (subst (λ vs. FloorsAre (learnt n) vs (floors_of old n)) (sym stays.1) (were n)))
+]
+
 -- ---- one entry is learnt
 
 -- the entry that is told, if any
@@ -90,41 +122,56 @@ told_entry (Some t) = t.entry ∷ []
 abbrev pub learnt_more : ℕ → List Entry → (ℕ → List Entry) → ℕ → List Entry
 learnt_more number more learnt n = if n == number then learnt n ++ more else learnt n
 
--- each session's floors are those of what it has learnt of
-abbrev pub AreAllFloors : (ℕ → List Entry) → List Session → Type 0
-AreAllFloors learnt sessions = (n : ℕ) → FloorsAre (learnt n) (floors_of sessions n)
+more_here : (number : ℕ) (more : List Entry) (learnt : ℕ → List Entry) → learnt_more number more learnt number ≡ learnt number ++ more
+more_here number more learnt = (let test : (number == number) ≡ true = eq-eqb number number refl in rw test refl)
 
-session_learns : (number : ℕ) (t : LearntEntry) (old new : List Session) (learnt : ℕ → List Entry) → HasFewTouches t.shard t.entry
-    → SessionLearns number t.shard t.entry t.note old new → AreAllFloors learnt old → AreAllFloors (learnt_more number (t.entry ∷ []) learnt) new
-session_learns number t old new learnt few learns were n =
-    subst (λ sessions. FloorsAre (learnt_more number (t.entry ∷ []) learnt n) (floors_of sessions n)) (sym learns.is) (elim (cases_eq n number) [
-      | inl is ↦
-          let same : learns.to.session ≡ learns.from.session = ap (λ (s : Session). s.session) learns.learns.rest in
-          let test : (n == number) ≡ true = eq-eqb n number is in
-          let found : session_at old n ≡ Some learns.from = ap (session_at old) is ∙ learns.found in
-          let was : FloorsAre (learnt n) learns.from.floors =
-          subst (λ o. FloorsAre (learnt n) (option_map_or (λ (s : Session). s.floors) o [])) found (were n) in
-          rw test (subst (FloorsAre (learnt n ++ t.entry ∷ [])) (sym (floors_here learns.to old n learns.from found same))
-          (floors_learn t.shard t.entry (learnt n) learns.from.floors learns.to.floors few.here few.few learns.learns.floors was))
-      | inr apart ↦
-          let other : learns.to.session ≢ n = λ same. apart (sym same ∙ ap (λ (s : Session). s.session) learns.learns.rest
-          ∙ found_number number old learns.from learns.found) in
-          let test : (n == number) ≡ false = ne_eqb n number apart in
-          rw test (subst (FloorsAre (learnt n)) (sym (floors_there learns.to old n other)) (were n))
-    ])
+more_there : (number n : ℕ) (more : List Entry) (learnt : ℕ → List Entry) → n ≢ number → learnt_more number more learnt n ≡ learnt n
+more_there number n more learnt apart = (let test : (n == number) ≡ false = ne_eqb n number apart in rw test refl)
+
+session_learns : (number : ℕ) (t : LearntEntry) (old new : List Session) (learnt : ℕ → List Entry) (saw : ℕ → List SeenVersion)
+    → HasFewTouches t.shard t.entry → SessionLearns number t.shard t.entry t.note old new → AreAllFloors learnt saw old
+    → AreAllFloors (learnt_more number (t.entry ∷ []) learnt) saw new
+session_learns number t old new learnt saw few learns were =
+    let more = t.entry ∷ [] in
+    subst (AreAllFloors (learnt_more number more learnt) saw) (sym learns.is)
+    (learns_alone number learns.from learns.to old learnt (learnt_more number more learnt) saw saw learns.found (record {
+      same = ap (λ (s : Session). s.session) learns.learns.rest;
+      here = λ was. subst (λ es. FloorsAre es (saw number) learns.to.floors) (sym (more_here number more learnt))
+          (floors_learn t.shard t.entry (learnt number) (saw number) learns.from.floors learns.to.floors few.here few.few learns.learns.floors was);
+      others = λ n apart. (more_there number n more learnt apart, refl);
+    }) were)
+
+-- ---- one version is seen
+
+-- a session has seen one more version
+abbrev pub seen_more : ℕ → SeenVersion → (ℕ → List SeenVersion) → ℕ → List SeenVersion
+seen_more number one saw n = if n == number then one ∷ saw n else saw n
+
+pub session_sees : (number : ℕ) (one : SeenVersion) (note : View) (old new : List Session) (learnt : ℕ → List Entry) (saw : ℕ → List SeenVersion)
+    → SessionLearnsVersion number one.key one.version note old new → AreAllFloors learnt saw old → AreAllFloors learnt (seen_more number one saw) new
+session_sees number one note old new learnt saw learns were =
+    let test : (number == number) ≡ true = eq-eqb number number refl in
+    let own : seen_more number one saw number ≡ one ∷ saw number = rw test refl in
+    subst (AreAllFloors learnt (seen_more number one saw)) (sym learns.is)
+    (learns_alone number learns.from learns.to old learnt learnt saw (seen_more number one saw) learns.found (record {
+      same = ap (λ (s : Session). s.session) learns.learns.rest;
+      here = λ was. subst (λ vs. FloorsAre (learnt number) vs learns.to.floors) (sym own)
+          (floors_see one (learnt number) (saw number) learns.from.floors learns.to.floors learns.learns.floors was);
+      others = λ n apart. (let other : (n == number) ≡ false = ne_eqb n number apart in (refl, rw other refl));
+    }) were)
 
 -- ---- both entries of a write are learnt
 
 none_more : (number n : ℕ) (learnt : ℕ → List Entry) → learnt_more number [] learnt n ≡ learnt n
 none_more number n learnt = elim (cases_Bool (n == number)) [ inl is ↦ rw is (append-nil (learnt n)) | inr isnt ↦ rw isnt refl ]
 
-learns_through : (number : ℕ) (told : Option LearntEntry) (old new : List Session) (learnt : ℕ → List Entry)
-    → IfSome told (λ t. HasFewTouches t.shard t.entry) → LearnsThrough number told old new → AreAllFloors learnt old
-    → AreAllFloors (learnt_more number (told_entry told) learnt) new
-learns_through number None old new learnt few learns were n =
-    subst (λ es. FloorsAre es (floors_of new n)) (sym (none_more number n learnt))
-    (subst (λ sessions. FloorsAre (learnt n) (floors_of sessions n)) (sym learns) (were n))
-learns_through number (Some t) old new learnt few learns were n = session_learns number t old new learnt few learns were n
+learns_through : (number : ℕ) (told : Option LearntEntry) (old new : List Session) (learnt : ℕ → List Entry) (saw : ℕ → List SeenVersion)
+    → IfSome told (λ t. HasFewTouches t.shard t.entry) → LearnsThrough number told old new → AreAllFloors learnt saw old
+    → AreAllFloors (learnt_more number (told_entry told) learnt) saw new
+learns_through number None old new learnt saw few learns were n =
+    subst (λ es. FloorsAre es (saw n) (floors_of new n)) (sym (none_more number n learnt))
+    (subst (λ sessions. FloorsAre (learnt n) (saw n) (floors_of sessions n)) (sym learns) (were n))
+learns_through number (Some t) old new learnt saw few learns were n = session_learns number t old new learnt saw few learns were n
 
 -- each entry that is told has few touches, on its shard
 pub record AreFewTold (told : LearntEntries) : Type 0 where
@@ -135,11 +182,11 @@ pub record AreFewTold (told : LearntEntries) : Type 0 where
 abbrev pub learnt_after : ℕ → LearntEntries → (ℕ → List Entry) → ℕ → List Entry
 learnt_after number told learnt = learnt_more number (told_entry told.other) (learnt_more number (told_entry told.here) learnt)
 
-pub learns_both : (number : ℕ) (told : LearntEntries) (old new : List Session) (learnt : ℕ → List Entry) → AreFewTold told → LearnsBoth number told old new
-    → AreAllFloors learnt old → AreAllFloors (learnt_after number told learnt) new
-learns_both number told old new learnt few learns were =
-    learns_through number told.other learns.between new (learnt_more number (told_entry told.here) learnt) few.other learns.other
-    (learns_through number told.here old learns.between learnt few.here learns.here were)
+pub learns_both : (number : ℕ) (told : LearntEntries) (old new : List Session) (learnt : ℕ → List Entry) (saw : ℕ → List SeenVersion) → AreFewTold told
+    → LearnsBoth number told old new → AreAllFloors learnt saw old → AreAllFloors (learnt_after number told learnt) saw new
+learns_both number told old new learnt saw few learns were =
+    learns_through number told.other learns.between new (learnt_more number (told_entry told.here) learnt) saw few.other learns.other
+    (learns_through number told.here old learns.between learnt saw few.here learns.here were)
 
 -- who has learnt of an entry stays so
 more_after : (number n : ℕ) (more : List Entry) (learnt : ℕ → List Entry) → (es : List Entry) × (learnt_more number more learnt n ≡ learnt n ++ es)
@@ -156,9 +203,6 @@ learnt_grows number told learnt n =
     (first.0 ++ second.0, second.1 ∙ ap (λ es. es ++ second.0) first.1 ∙ append_assoc (learnt n) first.0 second.0)
 
 -- and the session of a write has learnt of each entry that it is told of
-more_here : (number : ℕ) (more : List Entry) (learnt : ℕ → List Entry) → learnt_more number more learnt number ≡ learnt number ++ more
-more_here number more learnt = (let test : (number == number) ≡ true = eq-eqb number number refl in rw test refl)
-
 what_is_told : (told : Option LearntEntry) (e : Entry) → IsWhatIsTold told e → Contains (told_entry told) e
 what_is_told None e is = absurd is
 what_is_told (Some t) e is = (0, omega arith, is)

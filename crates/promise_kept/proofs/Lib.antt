@@ -1,6 +1,7 @@
 pub mod Adding
 pub mod Again
 pub mod AtOnce
+pub mod Beginnings
 pub mod CacheLines
 pub mod CallLines
 pub mod Commits
@@ -22,6 +23,7 @@ pub mod Repaired
 pub mod Requests
 pub mod Resting
 pub mod Saying
+pub mod Seeing
 pub mod Settled
 pub mod Staying
 pub mod StoreLines

@@ -6,7 +6,7 @@ use Rattle.std.specs.Option.{option_map_or}
 use Rattle.std.specs.Prelude.{◌==◌, filter, find, nat_lt}
 use Rattle.core_sessions.specs.Sessions.{Session, is_open, new_session, session_at, with_session}
 use Rattle.core_sessions.specs.declared.sessions.OpenSession.{OpenSession}
-use Rattle.plain_promise.specs.Promise.{Begun, IsWellKept, Logs, Plain, settled_after}
+use Rattle.plain_promise.specs.Promise.{Begun, IsWellKept, Logs, Plain, SeenVersion, settled_after}
 use Rattle.promise_kept.proofs.Going.{kept_now, stores_are}
 use Rattle.promise_kept.proofs.Resting.{grows_then, held_rests, seen_then}
 use Rattle.promise_kept.proofs.Saying.{plain_at}
@@ -90,7 +90,7 @@ module _ (new : Session) (old : List Session) where
       (λ x is. lt_false x.session new.session (λ lt. absurd (omega (arith, lt, is))))
 
   -- the session that is opened is found by its number
-  opened_here : session_at (with_session new old) new.session ≡ Some new
+  pub opened_here : session_at (with_session new old) new.session ≡ Some new
   opened_here =
       let own : (new.session == new.session) ≡ true = eq-eqb new.session new.session refl in
       find_past new.session Lower (new ∷ Greater) here_none ∙ (rw own refl)
@@ -141,27 +141,27 @@ floors_opened new old none closed n = elim (cases_eq new.session n) [
 
 -- ---- the line
 
-module _ (old new : Moment) (learnt : ℕ → List Entry) (held : ℕ → Option Begun) (settled : Option Logs)
-    (was : IsPlainOf old (plain_at old.core.settings old.keepers.told learnt held settled)) (session region tier : ℕ) where
+module _ (old new : Moment) (learnt : ℕ → List Entry) (saw : ℕ → List SeenVersion) (held : ℕ → Option Begun) (settled : Option Logs)
+    (was : IsPlainOf old (plain_at old.core.settings old.keepers.told learnt saw held settled)) (session region tier : ℕ) where
   abbrev s : Settings
   s = old.core.settings
 
   abbrev Before : Plain
-  Before = plain_at old.core.settings old.keepers.told learnt held settled
+  Before = plain_at old.core.settings old.keepers.told learnt saw held settled
 
   abbrev After : Plain
-  After = plain_at old.core.settings new.keepers.told learnt held settled
+  After = plain_at old.core.settings new.keepers.told learnt saw held settled
 
   abbrev Place : OpenSession
   Place = record { session = session; region = region; tier = tier }
 
   floors_then : (reply : Reply) → is_open old.core.sessions session ≡ false → AnswersOpen Place old.core.sessions reply new.core.sessions → (n : ℕ)
-      → FloorsAre (learnt n) (floors_of new.core.sessions n)
+      → FloorsAre (learnt n) (saw n) (floors_of new.core.sessions n)
   floors_then (Opened number) closed answers n =
-      subst (FloorsAre (learnt n)) (sym (ap (λ xs. floors_of xs n) answers.1.1
+      subst (FloorsAre (learnt n) (saw n)) (sym (ap (λ xs. floors_of xs n) answers.1.1
       ∙ floors_opened (new_session Place answers.1.0) old.core.sessions refl closed n)) (was.learnt n)
   floors_then (Refused (Memory position)) closed answers n =
-      subst (FloorsAre (learnt n)) (sym (ap (λ xs. floors_of xs n) answers.1)) (was.learnt n)
+      subst (FloorsAre (learnt n) (saw n)) (sym (ap (λ xs. floors_of xs n) answers.1)) (was.learnt n)
   floors_then reply closed answers n = absurd answers
 
   pub open_steps : (reply : Reply) (line : IsLine (asks.Open session region tier) old reply new) → (settled_after Before reply After.stores.logs ≡ settled)
@@ -176,10 +176,11 @@ module _ (old new : Moment) (learnt : ℕ → List Entry) (held : ℕ → Option
           grows = grows_then old new line.on;
           well_kept = subst (IsWellKept (types_of s.schema)) (stores_are old new line.on) (kept_now old new line.on);
           learnt = λ n. ([], sym (append-nil (learnt n)));
+          seen = λ n. refl;
           held = λ plan. refl;
           settled = sym unsettled;
         };
-        seen = seen_then old new line.on Before learnt held was (floors_then reply line.can.0 line.answers.0)
+        seen = seen_then old new line.on Before learnt saw held was (floors_then reply line.can.0 line.answers.0)
             (λ n plan at. held_rests old new line.on held was.held n plan
             (subst (λ ps. plan_at ps n ≡ Some plan) (ap (λ (m : Moment). m.core.plans) rest) at));
       }

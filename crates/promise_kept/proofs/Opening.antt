@@ -1,4 +1,4 @@
--- A core that was just opened is a plain state: nobody has learnt of anything, no call is held, and nothing was settled.
+-- A core that was just opened is a plain state: nobody has learnt of anything or seen any, no call is held, and nothing was settled.
 use Rattle.std.proofs.Common.{◌≡◌, List, [], Some, None, refl, sym, subst}
 use Rattle.core_plans.specs.Held.{Plans, plan_at}
 use Rattle.core_sessions.specs.Sessions.{Session}
@@ -19,7 +19,7 @@ none_settled m = record { grows = λ logs is. absurd (cc (is)); rests = λ logs 
 pub opened_seen : (m : Moment) → IsNewCore m.core → IsPlainOf m (opened_plain m)
 opened_seen m begun = record {
   stores = refl;
-  learnt = λ number. subst (λ (sessions : List Session). FloorsAre [] (floors_of sessions number)) (sym begun.sessions) floors_begin;
+  learnt = λ number. subst (λ (sessions : List Session). FloorsAre [] [] (floors_of sessions number)) (sym begun.sessions) floors_begin;
   held = none_held m begun.plans;
   settled = none_settled m;
 }

@@ -1,6 +1,6 @@
 -- A line that is no call and opens no session, as a step of the promise: by what its reply says and what becomes of the logs.
 use Rattle.std.proofs.Common.{◌≡◌, ℕ, [], Option, Some, append-nil, refl, sym, ap, subst, ◌∙◌}
-use Rattle.plain_promise.specs.Promise.{ChangesLogs, EachGrows, Logs, Plain, SaysRightly, held_after, settled_after}
+use Rattle.plain_promise.specs.Promise.{ChangesLogs, EachGrows, Logs, Plain, SaysRightly, held_after, seen_after, settled_after}
 use Rattle.promise_kept.proofs.Going.{kept_now, logs_grow}
 use Rattle.promise_kept.proofs.Resting.{plain_rests}
 use Rattle.promise_kept.specs.Lines.{GoesOnUsable, StepsPlainly}
@@ -41,17 +41,18 @@ abbrev pub plain_with : Plain → Moment → Option Logs → Plain
 plain_with plain new settled = record plain { stores = stores_at new; settled = settled }
 
 module _ (old new : Moment) (plain : Plain) (is : IsPlainOf old plain) (on : GoesOnUsable old new) (keeps : KeepsCalls old new) where
-  seen_with : (settled : Option Logs) → IsSettledSince new settled → IsPlainOf new (plain_with plain new settled)
-  seen_with settled since =
+  seen_settled : (settled : Option Logs) → IsSettledSince new settled → IsPlainOf new (plain_with plain new settled)
+  seen_settled settled since =
       let rests = plain_rests old new on plain is keeps.sessions keeps.plans in
       record { stores = refl; learnt = rests.learnt; held = rests.held; settled = since }
 
   pub steps_so : (asked : Checked) (reply : Reply)
       → SaysRightly (types_of old.core.settings.schema) plain asked reply (plain_with plain new (settled_after plain reply (stores_at new).logs))
       → ChangesLogs (types_of old.core.settings.schema) plain asked (stores_at new).logs
-      → ((plan : ℕ) → plain.held plan ≡ held_after plain asked (stores_at new).logs plan) → IsSettledSince new (settled_after plain reply (stores_at new).logs)
+      → ((plan : ℕ) → plain.held plan ≡ held_after plain asked (stores_at new).logs plan)
+      → ((session : ℕ) → plain.seen session ≡ seen_after plain asked reply session) → IsSettledSince new (settled_after plain reply (stores_at new).logs)
       → StepsPlainly (Some asked) old plain reply new
-  steps_so asked reply says changes held since = record {
+  steps_so asked reply says changes held shows since = record {
     after = plain_with plain new (settled_after plain reply (stores_at new).logs);
     says = record {
       says = says;
@@ -59,8 +60,9 @@ module _ (old new : Moment) (plain : Plain) (is : IsPlainOf old plain) (on : Goe
       grows = subst (λ (st : Stores). EachGrows st.logs (stores_at new).logs) (sym is.stores) (logs_grow old new on);
       well_kept = kept_now old new on;
       learnt = λ session. ([], sym (append-nil (plain.learnt session)));
+      seen = shows;
       held = held;
       settled = refl;
     };
-    seen = seen_with (settled_after plain reply (stores_at new).logs) since;
+    seen = seen_settled (settled_after plain reply (stores_at new).logs) since;
   }

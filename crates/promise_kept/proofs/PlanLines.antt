@@ -10,17 +10,19 @@ use Rattle.core_plans.specs.Held.{IsUnderWay, plan_at}
 use Rattle.core_plans.specs.HeldReads.{at_bound}
 use Rattle.core_plans.specs.declared.held.HeldPlan.{HeldPlan}
 use Rattle.core_sessions.specs.Sessions.{Session}
-use Rattle.graph_model.specs.Legal.{floor}
-use Rattle.plain_promise.specs.Promise.{Begun, CallsAlone, IsWellKept, Logs, Plain, SaysOfCall, begun_now, held_after, went_on}
+use Rattle.plain_promise.specs.Promise.{Begun, CallsAlone, IsWellKept, Logs, Plain, SaysOfCall, SeenVersion, begun_now, carried_out}
+use Rattle.plain_promise.specs.Promise.{floor_at_start, held_after, seen_with, went_on}
 use Rattle.promise_kept.proofs.AtOnce.{read_begins, write_begins}
 use Rattle.promise_kept.proofs.CallLines.{alone_same, not_begun, unbegun_says}
 use Rattle.promise_kept.proofs.Going.{grows_same, kept_now, stores_are}
 use Rattle.promise_kept.proofs.HeldLines.{StepKept, step_kept}
+use Rattle.promise_kept.proofs.Learning.{AreAllFloors}
 use Rattle.promise_kept.proofs.Resting.{grows_then, held_rests, seen_then}
 use Rattle.promise_kept.proofs.Saying.{not_settled, plain_at}
+use Rattle.promise_kept.proofs.Seeing.{saw_after, uncarried_floors}
 use Rattle.promise_kept.specs.Lines.{GoesOnUsable, IsLine, StepsPlainly}
-use Rattle.promise_kept.specs.Seen.{AreBegun, FloorsAre, IsPlainOf, IsPlanOf, IsSettledSince, IsUnderWayFor, floors_of}
-use Rattle.read_plan.specs.Readings.{Reading, new_reading}
+use Rattle.promise_kept.specs.Seen.{AreBegun, IsPlainOf, IsPlanOf, IsSettledSince, IsUnderWayFor, floors_of}
+use Rattle.read_plan.specs.Readings.{Reading, new_reading, read_by}
 use Rattle.replies.specs.declared.reply.Reply.{Reply}
 use Rattle.request_check.specs.declared.checked.Checked.TheVariants as asks
 use Rattle.request_check.specs.declared.checked.CheckedCall.{CheckedCall}
@@ -56,21 +58,21 @@ module _ (number : ℕ) (was now : Logs) (held : ℕ → Option Begun) where
   advance_others : (n : ℕ) → (n ≡ number → ⊥) → Advanced n ≡ held n
   advance_others n apart = ap (λ b. if b then option_map (went_on was now) (held n) else held n) (ne_eqb n number apart)
 
-advance_line : (old new : Moment) (learnt : ℕ → List Entry) (held : ℕ → Option Begun) (settled : Option Logs) (number : ℕ) (reply : Reply)
-    → IsPlainOf old (plain_at old.core.settings old.keepers.told learnt held settled) → IsLine (asks.Plan (Advance number)) old reply new
-    → StepsPlainly (Some (asks.Plan (Advance number))) old (plain_at old.core.settings old.keepers.told learnt held settled) reply new
-advance_line old new learnt held settled number reply was line =
+advance_line : (old new : Moment) (learnt : ℕ → List Entry) (saw : ℕ → List SeenVersion) (held : ℕ → Option Begun) (settled : Option Logs) (number : ℕ) (reply : Reply)
+    → IsPlainOf old (plain_at old.core.settings old.keepers.told learnt saw held settled) → IsLine (asks.Plan (Advance number)) old reply new
+    → StepsPlainly (Some (asks.Plan (Advance number))) old (plain_at old.core.settings old.keepers.told learnt saw held settled) reply new
+advance_line old new learnt saw held settled number reply was line =
     let s = old.core.settings in
     let steps = line.answers in
     let begun = was.held number steps.before steps.stands in
-    let before : Plain = plain_at s old.keepers.told learnt held settled in
+    let before : Plain = plain_at s old.keepers.told learnt saw held settled in
     let logs : Logs = (stores_in s new.keepers.told).logs in
     let held_now : ℕ → Option Begun = held_after before (asks.Plan (Advance number)) logs in
     let others = advance_others number before.stores.logs logs held in
-    let kept : StepKept old new learnt held settled was line.on word.Advance number reply held_now others begun.0 =
-    step_kept old new learnt held settled was line.on word.Advance number reply held_now others steps begun.0 begun.2
+    let kept : StepKept old new learnt saw held settled was line.on word.Advance number reply held_now others begun.0 =
+    step_kept old new learnt saw held settled was line.on word.Advance number reply held_now others steps begun.0 begun.2
     (advance_here number before.stores.logs logs held begun.0 begun.1) in
-    let after : Plain = plain_at s new.keepers.told kept.learnt_now held_now settled in
+    let after : Plain = plain_at s new.keepers.told kept.learnt_now (saw_after begun.0 reply saw) held_now settled in
     record {
       after = after;
       says = record {
@@ -79,6 +81,7 @@ advance_line old new learnt held settled number reply was line =
         grows = grows_then old new line.on;
         well_kept = subst (IsWellKept (types_of s.schema)) (stores_are old new line.on) (kept_now old new line.on);
         learnt = kept.more;
+        seen = λ n. ap (λ o. seen_with o (carried_out reply) n (saw n)) (sym begun.1);
         held = λ plan. refl;
         settled = sym (not_settled (types_of s.schema) begun.0 before after before.stores.logs reply logs kept.says);
       };
@@ -87,14 +90,14 @@ advance_line old new learnt held settled number reply was line =
 
 -- ---- hold
 
-module _ (old new : Moment) (learnt : ℕ → List Entry) (held : ℕ → Option Begun) (settled : Option Logs)
-    (was : IsPlainOf old (plain_at old.core.settings old.keepers.told learnt held settled)) (number : ℕ) (asked : CheckedCall) (reply : Reply)
+module _ (old new : Moment) (learnt : ℕ → List Entry) (saw : ℕ → List SeenVersion) (held : ℕ → Option Begun) (settled : Option Logs)
+    (was : IsPlainOf old (plain_at old.core.settings old.keepers.told learnt saw held settled)) (number : ℕ) (asked : CheckedCall) (reply : Reply)
     (line : IsLine (asks.Plan (Hold number asked)) old reply new) where
   abbrev s : Settings
   s = old.core.settings
 
   abbrev Before : Plain
-  Before = plain_at old.core.settings old.keepers.told learnt held settled
+  Before = plain_at old.core.settings old.keepers.told learnt saw held settled
 
   abbrev Began : Begun
   Began = begun_now Before asked
@@ -113,7 +116,7 @@ module _ (old new : Moment) (learnt : ℕ → List Entry) (held : ℕ → Option
   Then = went_on (stores_in old.core.settings old.keepers.told).logs (stores_in old.core.settings new.keepers.told).logs Began
 
   abbrev After : (ℕ → List Entry) → Plain
-  After learnt_now = plain_at old.core.settings new.keepers.told learnt_now (held_as Then) settled
+  After learnt_now = plain_at old.core.settings new.keepers.told learnt_now (saw_after (begun_now Before asked) reply saw) (held_as Then) settled
 
   abbrev Steps : Type 0
   Steps = StepsPlainly (Some (asks.Plan (Hold number asked))) old Before reply new
@@ -129,6 +132,7 @@ module _ (old new : Moment) (learnt : ℕ → List Entry) (held : ℕ → Option
       grows = grows_then old new line.on;
       well_kept = subst (IsWellKept (types_of s.schema)) (stores_are old new line.on) (kept_now old new line.on);
       learnt = more;
+      seen = λ n. refl;
       held = λ plan. refl;
       settled = sym (not_settled (types_of s.schema) Began Before (After learnt_now) Was.logs reply Now.logs says);
     };
@@ -148,11 +152,13 @@ module _ (old new : Moment) (learnt : ℕ → List Entry) (held : ℕ → Option
   refused_hold refuses =
       let same = refuses.same in
       let logs : Now.logs ≡ Was.logs = ap (λ (m : Moment). (stores_in s m.keepers.told).logs) same in
+      let refused = not_begun old.core.states old.core.sessions asked reply refuses.refused in
+      let were = subst (λ (m : Moment). AreAllFloors learnt saw m.core.sessions) (sym same) was.learnt in
       hold_keeps learnt (λ n. ([], sym (append-nil (learnt n))))
-      (unbegun_says Began Was.logs (After learnt) s reply (not_begun old.core.states old.core.sessions asked reply refuses.refused) logs)
+      (unbegun_says Began Was.logs (After learnt) s reply refused logs)
       (alone_same s old new asked logs)
-      (seen_then old new line.on Before learnt (held_as Then) was
-      (λ n. subst (λ (m : Moment). FloorsAre (learnt n) (floors_of m.core.sessions n)) (sym same) (was.learnt n))
+      (seen_then old new line.on Before learnt (saw_after Began reply saw) (held_as Then) was
+      (uncarried_floors learnt saw new.core.sessions were Began reply (ap carried_out refused.reply_is))
       (λ n plan at.
       let there = subst (λ (m : Moment). plan_at m.core.plans n ≡ Some plan) same at in
       elim (cases_eq n number) [
@@ -205,13 +211,14 @@ module _ (old new : Moment) (learnt : ℕ → List Entry) (held : ℕ → Option
     begun_for (call.Read read) begun =
         let key = query_key read.query in
         let session = begun.session in
-        let p : Reading = at_bound s (new_reading read.query session.region session.tier (floor_at session.floors key) read.critical begun.follower) in
+        let p : Reading = read_by read.session
+        (at_bound s (new_reading read.query session.region session.tier (floor_at session.floors key) read.critical begun.follower)) in
         let own = subst (IsUnderWay true s old.keepers.told old.core.fleet) begun.plan_is under in
         let floors : floors_of old.core.sessions read.session ≡ session.floors =
         ap (λ o. option_map_or (λ (x : Session). x.floors) o []) begun.found in
-        let least = subst (λ fs. floor_at fs key ≡ floor (learnt read.session) key) floors ((was.learnt read.session).at key) in
+        let least = subst (λ fs. floor_at fs key ≡ floor_at_start (begun_now Before (call.Read read)) key) floors ((was.learnt read.session).at key) in
         subst (IsUnderWayFor s old.keepers (begun_now Before (call.Read read)) (call.Read read)) (sym begun.plan_is)
-        (read_begins s old.keepers (begun_now Before (call.Read read)) read p own.follower.here refl refl refl least refl)
+        (read_begins s old.keepers (begun_now Before (call.Read read)) read p own.follower.here refl refl refl least refl refl)
     begun_for (call.Write write) begun =
         let session = begun.session in
         let p : Writing = begun_write write.write (Client write.session write.seq) session.region session.tier begun.follower in
@@ -240,7 +247,7 @@ module _ (old new : Moment) (learnt : ℕ → List Entry) (held : ℕ → Option
               (before.0, held_there Began n apart ∙ before.1, plan_added one before.0 before.2)
         ]
 
-    was_added : IsPlainOf Added (plain_at old.core.settings old.keepers.told learnt (held_as Began) settled)
+    was_added : IsPlainOf Added (plain_at old.core.settings old.keepers.told learnt saw (held_as Began) settled)
     was_added = record {
       stores = refl;
       learnt = was.learnt;
@@ -254,8 +261,8 @@ module _ (old new : Moment) (learnt : ℕ → List Entry) (held : ℕ → Option
     others : (n : ℕ) → (n ≡ number → ⊥) → held_as Then n ≡ held_as Began n
     others n apart = held_there Then n apart ∙ sym (held_there Began n apart)
 
-    kept : StepKept Added new learnt (held_as Began) settled was_added on_added word.Hold number reply (held_as Then) others Began
-    kept = step_kept Added new learnt (held_as Began) settled was_added on_added word.Hold number reply (held_as Then) others goes.steps Began
+    kept : StepKept Added new learnt saw (held_as Began) settled was_added on_added word.Hold number reply (held_as Then) others Began
+    kept = step_kept Added new learnt saw (held_as Began) settled was_added on_added word.Hold number reply (held_as Then) others goes.steps Began
         (subst (λ x. IsPlanOf Added x Began) own_before is_plan) (held_here Then number refl)
 
     goes_hold : Steps
@@ -266,8 +273,8 @@ module _ (old new : Moment) (learnt : ℕ → List Entry) (held : ℕ → Option
 
 -- ---- whatever is asked of a plan
 
-pub plan_line : (old new : Moment) (learnt : ℕ → List Entry) (held : ℕ → Option Begun) (settled : Option Logs) (asked : CheckedPlan) (reply : Reply)
-    → IsPlainOf old (plain_at old.core.settings old.keepers.told learnt held settled) → IsLine (asks.Plan asked) old reply new
-    → StepsPlainly (Some (asks.Plan asked)) old (plain_at old.core.settings old.keepers.told learnt held settled) reply new
-plan_line old new learnt held settled (Hold number asked) reply was line = hold_line old new learnt held settled was number asked reply line
-plan_line old new learnt held settled (Advance number) reply was line = advance_line old new learnt held settled number reply was line
+pub plan_line : (old new : Moment) (learnt : ℕ → List Entry) (saw : ℕ → List SeenVersion) (held : ℕ → Option Begun) (settled : Option Logs) (asked : CheckedPlan) (reply : Reply)
+    → IsPlainOf old (plain_at old.core.settings old.keepers.told learnt saw held settled) → IsLine (asks.Plan asked) old reply new
+    → StepsPlainly (Some (asks.Plan asked)) old (plain_at old.core.settings old.keepers.told learnt saw held settled) reply new
+plan_line old new learnt saw held settled (Hold number asked) reply was line = hold_line old new learnt saw held settled was number asked reply line
+plan_line old new learnt saw held settled (Advance number) reply was line = advance_line old new learnt saw held settled number reply was line

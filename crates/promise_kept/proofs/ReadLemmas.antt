@@ -5,9 +5,9 @@ use Rattle.core_model.specs.Stores.{master_log, stores_in}
 use Rattle.core_plans.specs.HeldReads.{HasComeTo, version_now, wanted_by}
 use Rattle.core_steps.specs.Reads.{IsLegalNow}
 use Rattle.graph_model.proofs.Exact.{version_take}
-use Rattle.graph_model.specs.Legal.{IsLegal, floor}
+use Rattle.graph_model.specs.Legal.{IsLegal}
 use Rattle.graph_model.specs.Log.{version}
-use Rattle.plain_promise.specs.Promise.{AreSameLogs, Begun, Logs, log_read}
+use Rattle.plain_promise.specs.Promise.{AreSameLogs, Begun, Logs, floor_at_start, log_read}
 use Rattle.promise_kept.proofs.Going.{log_is}
 use Rattle.promise_kept.proofs.Refusing.{EndsRefused}
 use Rattle.promise_kept.specs.Seen.{IsReadFor}
@@ -73,7 +73,7 @@ module _ (s : Settings) (keepers : KeeperState) (began : Begun) (read : CheckedR
   Now = (stores_in s keepers.told).logs
 
   pub answer_legal : IsLegalNow true s (wanted_by q) reply keepers
-      → IsLegal (types_of s.schema) (log_read Now read) read.query (floor began.learnt (query_key read.query)) reply.answer reply.version
+      → IsLegal (types_of s.schema) (log_read Now read) read.query (floor_at_start began (query_key read.query)) reply.answer reply.version
   answer_legal legal =
       let types = types_of s.schema in
       let in_log = subst (λ l. IsLegal types l q.query q.floor reply.answer reply.version)

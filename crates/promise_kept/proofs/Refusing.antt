@@ -1,11 +1,12 @@
 -- A read that ends without an answer ends with a refusal, its answer's version is one that its key had, and no stage of a read changes a table.
-use Rattle.std.proofs.Common.{◌≡◌, ℕ, Bool, true, false, Some, None, refl, sym, ap, ◌∙◌, subst, take, inl, inr}
+use Rattle.std.proofs.Common.{◌≡◌, ℕ, Bool, true, false, Option, Some, None, refl, sym, ap, ◌∙◌, subst, take, inl, inr}
 use Rattle.std.specs.Prelude.{⊤}
 use Rattle.cache_items.specs.declared.look.Look.{Look}
 use Rattle.cache_items.specs.declared.look.Look.TheVariants.{Hit, Miss}
 use Rattle.core_model.specs.Stores.{stores_in}
+use Rattle.core_plans.proofs.InTurn.{read_same}
 use Rattle.core_plans.proofs.WholeRuns.{OfRead, read_keeps}
-use Rattle.core_plans.specs.HeldReads.{ComesOfRead, DoesKeep, DoesLook, DoesReadStage, read_is_down}
+use Rattle.core_plans.specs.HeldReads.{ComesOfRead, DoesKeep, DoesLook, DoesReadStage, EndsRead, read_is_down}
 use Rattle.core_plans.specs.LedBy.{Rules, rules_of}
 use Rattle.core_plans.specs.WholeCalls.{CarriesOut, PassesStage}
 use Rattle.core_plans.specs.declared.held.HeldPlan.{HeldPlan}
@@ -94,24 +95,34 @@ refused_standing critical bound Mastering reply = refl
 refused_standing critical bound (Keeping given) reply = refl
 refused_standing critical bound (Ended end) reply = refl
 
+-- a read that ends in place of its next stage ends with that refusal
+pub end_refused : (reply : Reply) (p q : Reading) (old new : World) → EndsRead reply p old q new → q.at ≡ Ended (ended.Refused reply)
+end_refused reply p q old new over = ap (λ (r : Reading). r.at) over.then ∙ refused_standing p.critical p.bound p.at reply
+
+pub end_refuses : (reply : Reply) (p q : Reading) (old new : World) → EndsRead reply p old q new → (refusal : Refusal) × (reply ≡ Refused refusal)
+    → EndsRefused q.at
+end_refuses reply p q old new over is = subst EndsRefused (sym (end_refused reply p q old new over)) is
+
 pub stage_refuses : (rules : Rules) (p q : Reading) (old new : World) → ComesOfRead rules p old q new → EndsRefused q.at
 stage_refuses rules p q old new (inl next) = stage_so rules p.at p q old new refl next.does
-stage_refuses rules p q old new (inr down) = at_then q _ down.then
-    (subst EndsRefused (sym (refused_standing p.critical p.bound p.at (read_is_down down.node))) (_, refl))
+stage_refuses rules p q old new (inr down) = end_refuses (read_is_down down.node) p q old new down.over (_, refl)
 
 -- ---- all stages
 
--- no table changed since the first, one that ended without an answer was refused, and the version of an answer is one that the read's key had
-pub record ReadRests (s : Settings) (first : World) (q : Reading) (now : World) : Type 0 where
+-- no table changed since the first, for whom the read is stays, one that ended without an answer was refused, and the version of an answer is one that the
+-- read's key had
+pub record ReadRests (s : Settings) (reader : Option ℕ) (first : World) (q : Reading) (now : World) : Type 0 where
   pub tables : Stays first.keepers.told now.keepers.told
+  pub reader_is : q.reader ≡ reader
   pub refused : EndsRefused q.at
   pub answers : (reply : ReadReply) → EndsWith q (Called (called.Read reply)) → IsVersionOfSome (stores_in s now.keepers.told).logs reply.version
 
-module _ (s : Settings) (first : World) where
-  rests_on : (p q : Reading) (old new : World) → ReadRests s first p old → PassesStage (rules_of true s) (of.Read p) old (of.Read q) new
-      → ReadRests s first q new
+module _ (s : Settings) (reader : Option ℕ) (first : World) where
+  rests_on : (p q : Reading) (old new : World) → ReadRests s reader first p old → PassesStage (rules_of true s) (of.Read p) old (of.Read q) new
+      → ReadRests s reader first q new
   rests_on p q old new so stage = record {
     tables = λ at. stage.steps.tables refl at ∙ so.tables at;
+    reader_is = (read_same p q old new (rules_of true s) stage.steps.steps.does).reader ∙ so.reader_is;
     refused = stage_refuses (rules_of true s) p q old new stage.steps.steps.does;
     answers = λ reply ends.
         let legal = (stage.steps.steps.legal reply ends).0 refl in
@@ -123,12 +134,13 @@ module _ (s : Settings) (first : World) where
         };
   }
 
-  pub read_rests : (p : Reading) (q : HeldPlan) (new : World) → p.at ≡ Looking → CarriesOut (rules_of true s) (of.Read p) first q new
-      → OfRead (ReadRests s first) q new
-  read_rests p q new begun out =
-      read_keeps (rules_of true s) (ReadRests s first) rests_on out.stages p q first new
+  pub read_rests : (p : Reading) (q : HeldPlan) (new : World) → p.at ≡ Looking → p.reader ≡ reader → CarriesOut (rules_of true s) (of.Read p) first q new
+      → OfRead (ReadRests s reader first) q new
+  read_rests p q new begun for_whom out =
+      read_keeps (rules_of true s) (ReadRests s reader first) rests_on out.stages p q first new
       (record {
         tables = λ at. refl;
+        reader_is = for_whom;
         refused = subst EndsRefused (sym begun) tt;
         answers = λ reply ends. absurd (subst (λ a. EndsAt a p (Called (called.Read reply))) begun ends);
       })

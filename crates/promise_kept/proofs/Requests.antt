@@ -1,5 +1,5 @@
 -- Every request keeps the promise: what it asks is of one of the families, or it was refused before anything was done.
-use Rattle.std.proofs.Common.{◌≡◌, true, Option, Some, None, Result, Ok, Err, IfOk, refl, sym, ap, subst, inl, inr}
+use Rattle.std.proofs.Common.{◌≡◌, true, Some, None, Result, Ok, Err, IfOk, refl, sym, ap, subst, inl, inr}
 use Rattle.outcomes.proofs.InTurn.{then_ok}
 use Rattle.plain_promise.specs.Promise.{Plain}
 use Rattle.promise_kept.proofs.CacheLines.{cache_line, link_line}
@@ -24,7 +24,6 @@ use Rattle.tao_core.proofs.AskedLemmas.{checked_can}
 use Rattle.tao_core.specs.Asked.{CanBeDone, admitted, asked_of}
 use Rattle.tao_core.specs.Core.{Moment}
 use Rattle.tao_core.specs.Replies.{AnswersAsked, AnswersRequest}
-use Rattle.topology.specs.Config.{Settings}
 
 -- ---- what is asked can be done
 
@@ -33,7 +32,7 @@ named_as (Ok x) c is = cc
 named_as (Err refused) c is = absurd (cc)
 
 -- what a request was checked to can be done
-can_be_done : (m : Moment) (request : Request) (asked : Checked)
+pub can_be_done : (m : Moment) (request : Request) (asked : Checked)
     → asked_of m.core.settings m.core.sessions m.core.plans request ≡ Ok asked → CanBeDone m.core.settings m.core.sessions m.core.plans asked
 can_be_done m request asked is =
     let s = m.core.settings in

@@ -9,7 +9,7 @@ use Rattle.core_plans.specs.declared.held.HeldPlan.{HeldPlan}
 use Rattle.core_plans.specs.declared.held.HeldPlan.TheVariants as of
 use Rattle.core_sessions.specs.Sessions.{Session}
 use Rattle.graph_model.specs.Log.{version}
-use Rattle.plain_promise.specs.Promise.{AreSameLogs, Begun, EachGrows, Plain, log_read}
+use Rattle.plain_promise.specs.Promise.{AreSameLogs, Begun, EachGrows, Plain, SeenVersion, log_read}
 use Rattle.promise_kept.proofs.Staying.{answered_stays}
 use Rattle.promise_kept.proofs.Going.{each_grows, grows_on, have_same, logs_grow, settled_rests, stay_same, stores_are, were_same}
 use Rattle.promise_kept.specs.Lines.{GoesOnUsable}
@@ -47,6 +47,7 @@ module _ (old new : Moment) (on : GoesOnUsable old new) where
     query_is = was.query_is;
     critical_is = was.critical_is;
     floor_is = was.floor_is;
+    reader_is = was.reader_is;
     whole = nothing_is_missed_later.later true Set (version (log_read began.logs read) (query_key read.query)) p old.keepers new.keepers
         on.after.grows.logs was.whole;
     last = λ logs is same.
@@ -92,11 +93,11 @@ module _ (old new : Moment) (on : GoesOnUsable old new) where
 
   -- ---- the whole state
 
-  -- the core is seen so, with what sessions have learnt then and the calls that are held then
-  pub seen_then : (plain : Plain) (learnt : ℕ → List Entry) (held : ℕ → Option Begun) → IsPlainOf old plain
-      → ((number : ℕ) → FloorsAre (learnt number) (floors_of new.core.sessions number)) → AreBegun new held
-      → IsPlainOf new (record { stores = stores_in Set new.keepers.told; learnt = learnt; held = held; settled = plain.settled })
-  seen_then plain learnt held was floors begun = record {
+  -- the core is seen so, with what sessions have learnt and seen then and the calls that are held then
+  pub seen_then : (plain : Plain) (learnt : ℕ → List Entry) (saw : ℕ → List SeenVersion) (held : ℕ → Option Begun) → IsPlainOf old plain
+      → ((number : ℕ) → FloorsAre (learnt number) (saw number) (floors_of new.core.sessions number)) → AreBegun new held
+      → IsPlainOf new (record { stores = stores_in Set new.keepers.told; learnt = learnt; seen = saw; held = held; settled = plain.settled })
+  seen_then plain learnt saw held was floors begun = record {
     stores = sym (stores_are old new on);
     learnt = floors;
     held = begun;
@@ -106,6 +107,7 @@ module _ (old new : Moment) (on : GoesOnUsable old new) where
   pub plain_rests : (plain : Plain) → IsPlainOf old plain → new.core.sessions ≡ old.core.sessions → new.core.plans ≡ old.core.plans
       → IsPlainOf new (record plain { stores = stores_in Set new.keepers.told })
   plain_rests plain was sessions plans =
-      seen_then plain plain.learnt plain.held was
-      (λ number. subst (λ (opened : List Session). FloorsAre (plain.learnt number) (floors_of opened number)) (sym sessions) (was.learnt number))
+      seen_then plain plain.learnt plain.seen plain.held was
+      (λ number. subst (λ (opened : List Session). FloorsAre (plain.learnt number) (plain.seen number) (floors_of opened number)) (sym sessions)
+      (was.learnt number))
       (λ number plan at. held_rests plain.held was.held number plan (subst (λ ps. plan_at ps number ≡ Some plan) plans at))

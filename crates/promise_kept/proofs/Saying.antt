@@ -1,7 +1,7 @@
 -- What the reply to a line of a call says, in the words of the promise.
 use Rattle.std.proofs.Common.{◌≡◌, ◌⊎◌, ℕ, zero, suc, List, Option, Some, None, refl, sym, subst, inl, inr}
 use Rattle.core_model.specs.Stores.{stores_in}
-use Rattle.plain_promise.specs.Promise.{Begun, IsAcknowledged, Logs, Plain, ReadsRightly, RefusesAt, SaysOfCall, refused_at, settled_after}
+use Rattle.plain_promise.specs.Promise.{Begun, IsAcknowledged, Logs, Plain, ReadsRightly, RefusesAt, SaysOfCall, SeenVersion, refused_at, settled_after}
 use Rattle.promise_kept.proofs.ReadLemmas.{IsReadReply}
 use Rattle.promise_kept.proofs.WriteEnds.{WasDone, answer_of}
 use Rattle.promise_kept.proofs.WriteStages.{IsRefusedSo, RefusesHere}
@@ -63,16 +63,17 @@ module _ (types : EdgeTypes) (began : Begun) (read : CheckedRead) (old : Logs) (
 -- ---- writes
 
 -- a plain state of these stores
-abbrev pub plain_at : Settings → Tables → (ℕ → List Entry) → (ℕ → Option Begun) → Option Logs → Plain
-plain_at s tables learnt held settled = record { stores = stores_in s tables; learnt = learnt; held = held; settled = settled }
+abbrev pub plain_at : Settings → Tables → (ℕ → List Entry) → (ℕ → List SeenVersion) → (ℕ → Option Begun) → Option Logs → Plain
+plain_at s tables learnt seen held settled =
+    record { stores = stores_in s tables; learnt = learnt; seen = seen; held = held; settled = settled }
 
-module _ (s : Settings) (was now : Tables) (began : Begun) (write : CheckedWrite) (learnt_now : ℕ → List Entry) (held_now : ℕ → Option Begun)
-    (settled_now : Option Logs) where
+module _ (s : Settings) (was now : Tables) (began : Begun) (write : CheckedWrite) (learnt_now : ℕ → List Entry) (saw_now : ℕ → List SeenVersion)
+    (held_now : ℕ → Option Begun) (settled_now : Option Logs) where
   abbrev Old : Logs
   Old = (stores_in s was).logs
 
   abbrev New : Plain
-  New = plain_at s now learnt_now held_now settled_now
+  New = plain_at s now learnt_now saw_now held_now settled_now
 
   abbrev Says : Reply → Type 0
   Says reply = SaysOfCall (types_of s.schema) (began_as (Write write) began) Old reply New

@@ -61,7 +61,7 @@ module _ (shard : ℕ) (old new : Moment) (plain : Plain) (is : IsPlainOf old pl
   repaired_so reply says same =
       let back : plain.settled ≡ settled_after plain reply (stores_at new).logs = sym same in
       steps_so old new plain is on keeps Asked reply
-      (subst (λ settled. SaysRightly (types_of old.core.settings.schema) plain Asked reply (plain_with plain new settled)) back says) changes (λ plan. refl)
+      (subst (λ settled. SaysRightly (types_of old.core.settings.schema) plain Asked reply (plain_with plain new settled)) back says) changes (λ plan. refl) (λ session. refl)
       (subst (IsSettledSince new) back (settled_rests old new on plain.settled is.settled))
 
   repaired_steps : (region keepers link : ℕ) (outcome : Result (Option Ran) RepairFailed) → SaysJobs shard (stores_at new) outcome
@@ -103,10 +103,10 @@ module _ (old new : Moment) (plain : Plain) (is : IsPlainOf old plain) (on : Goe
   settle_steps : (reply : Reply) → AnswersSettle true old reply new → StepsPlainly (Some (asks.Store Settle)) old plain reply new
   settle_steps (Settled logs) answers =
       steps_so old new plain is on (keeps_calls old new answers.rest) (asks.Store Settle) (Settled logs) (settled_says old new on logs answers)
-      (from_plain (settled_changes old new on logs answers)) (λ plan. refl) (settled_now old new on logs answers)
+      (from_plain (settled_changes old new on logs answers)) (λ plan. refl) (λ session. refl) (settled_now old new on logs answers)
   settle_steps other answers =
       steps_so old new plain is on (unsettled_keeps old new answers.0 answers.2) (asks.Store Settle) other tt
-      (from_plain (settles_now old new on (unsettled old new answers.0 answers.2))) (λ plan. refl) (settled_rests old new on plain.settled is.settled)
+      (from_plain (settles_now old new on (unsettled old new answers.0 answers.2))) (λ plan. refl) (λ session. refl) (settled_rests old new on plain.settled is.settled)
 
 settle_line : KeepsLine (asks.Store Settle)
 settle_line old new plain reply is line = settle_steps old new plain is line.on reply line.answers
@@ -141,13 +141,13 @@ module _ (old new : Moment) (plain : Plain) (is : IsPlainOf old plain) (on : Goe
         steps_so old new plain is on keeps (asks.Store (Audit call)) (Audited given position)
         (subst (λ (st : Stores). IsAuditOf (types_of old.core.settings.schema) st.logs call (Audited given position)) (sym is.stores)
         (audit_says old call given position here (answers.0 refl)))
-        (same_stores (answers.1 refl)) (λ plan. refl) (settled_rests old new on plain.settled is.settled)
+        (same_stores (answers.1 refl)) (λ plan. refl) (λ session. refl) (settled_rests old new on plain.settled is.settled)
     audit_steps (Refused (OfStore (refused.KeeperFault count))) answers =
         steps_so old new plain is on keeps (asks.Store (Audit call)) (Refused (OfStore (refused.KeeperFault count))) tt
-        (same_stores (answers.tables refl)) (λ plan. refl) (settled_rests old new on plain.settled is.settled)
+        (same_stores (answers.tables refl)) (λ plan. refl) (λ session. refl) (settled_rests old new on plain.settled is.settled)
     audit_steps (Refused (Memory position)) answers =
         steps_so old new plain is on keeps (asks.Store (Audit call)) (Refused (Memory position)) tt
-        (same_stores (answers.tables refl)) (λ plan. refl) (settled_rests old new on plain.settled is.settled)
+        (same_stores (answers.tables refl)) (λ plan. refl) (λ session. refl) (settled_rests old new on plain.settled is.settled)
     audit_steps other answers = absurd answers
 
 audit_line : (call : CheckedRead) → KeepsLine (asks.Store (Audit call))
@@ -196,7 +196,7 @@ module _ (region shard : ℕ) (position : Option ℕ) (old new : Moment) (plain 
   stream_so : (reply : Reply) → KeepsCalls old new → (stores_at new).logs ≡ plain.stores.logs
       → settled_after plain reply (stores_at new).logs ≡ plain.settled → StepsPlainly (Some AskedStep) old plain reply new
   stream_so reply keeps same none =
-      steps_so old new plain is on keeps AskedStep reply tt same (λ plan. refl)
+      steps_so old new plain is on keeps AskedStep reply tt same (λ plan. refl) (λ session. refl)
       (subst (IsSettledSince new) (sym none) (settled_rests old new on plain.settled is.settled))
 
   stream_came : (outcome : Result Streamed Refusal) → KeepsCalls old new → (stores_at new).logs ≡ plain.stores.logs

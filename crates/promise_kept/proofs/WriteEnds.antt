@@ -7,7 +7,7 @@ use Rattle.core_model.proofs.Places.{one_some}
 use Rattle.core_model.specs.Stores.{stores_in}
 use Rattle.core_plans.specs.Held.{learnt_of_write, next_stage}
 use Rattle.core_plans.specs.declared.held.HeldPlan.TheVariants.{Write as OfWrite}
-use Rattle.plain_promise.specs.Promise.{Begun, FoundNothing, IsAcknowledged, Logs, StandsAsLearnt, TellsId, gained}
+use Rattle.plain_promise.specs.Promise.{Begun, FoundNothing, IsAcknowledged, Logs, SeenVersion, StandsAsLearnt, TellsId, gained}
 use Rattle.promise_kept.proofs.Adding.{gained_past, told_here}
 use Rattle.promise_kept.proofs.WriteStages.{IsRefusedSo, WritesSoFar}
 use Rattle.promise_kept.specs.Seen.{HasJobOf, HasWritten, IsAnsweredFor, IsToldOf, OwesNothing}
@@ -147,10 +147,10 @@ module _ (s : Settings) (began : Begun) (call : CheckedWrite) (start : Logs) (q 
       has e refl,
     )
 
-    pub acknowledged : (learnt : ℕ → List Entry) (held : ℕ → Option Begun) (settled : Option Logs)
+    pub acknowledged : (learnt : ℕ → List Entry) (saw : ℕ → List SeenVersion) (held : ℕ → Option Begun) (settled : Option Logs)
         → ((e : Entry) → IsToldOf (learnt_of_write q) e → Contains (learnt call.session) e)
-        → IsAcknowledged (types_of s.schema) began call (answer_of c q) start (record { stores = Now; learnt = learnt; held = held; settled = settled })
-    acknowledged learnt held settled has = record {
+        → IsAcknowledged (types_of s.schema) began call (answer_of c q) start (record { stores = Now; learnt = learnt; seen = saw; held = held; settled = settled })
+    acknowledged learnt saw held settled has = record {
       done = done_by (learnt call.session) c.wrote.retry c.wrote.entry answered_now.written answered_now.job answered_now.kind_is
           (λ e entry. has e (told_here q c committed_is e entry));
       learns = λ e added. has e (all_told e added);

@@ -1,5 +1,6 @@
 -- The line of a write that isn't held keeps the promise, and so does that of each call.
 use Rattle.std.proofs.Common.{◌≡◌, ℕ, true, List, Option, Some, None, refl, ap, subst, inl, inr}
+use Rattle.core_model.specs.Pens.{pens_of}
 use Rattle.core_model.specs.Stores.{HaveMasterRegions, stores_in}
 use Rattle.core_plans.proofs.WholeRuns.{OfWrite}
 use Rattle.core_plans.specs.Held.{IsOver, IsUnderWay, learnt_with, next_stage, plan_at}
@@ -7,13 +8,14 @@ use Rattle.core_plans.specs.LedBy.{rules_of}
 use Rattle.core_plans.specs.WholeCalls.{CarriesOut}
 use Rattle.core_plans.specs.declared.held.HeldPlan.{HeldPlan}
 use Rattle.core_plans.specs.declared.held.HeldPlan.TheVariants as of
-use Rattle.plain_promise.specs.Promise.{Begun, Logs, Plain, begun_now}
+use Rattle.plain_promise.specs.Promise.{Begun, Logs, Plain, SeenVersion, begun_now}
 use Rattle.promise_kept.proofs.AtOnce.{WritesThrough, few_with, has_told, here_few, write_begins, writes_at_once}
 use Rattle.promise_kept.proofs.Commits.{write_of}
 use Rattle.promise_kept.proofs.Going.{grows_same}
 use Rattle.promise_kept.proofs.Learning.{learns_both, learnt_after, learnt_grows, others_few}
 use Rattle.promise_kept.proofs.Resting.{held_rests, kept_then, seen_then}
 use Rattle.promise_kept.proofs.Saying.{plain_at, write_says}
+use Rattle.promise_kept.proofs.Seeing.{saw_after, write_floors}
 use Rattle.promise_kept.proofs.WriteEnds.{acknowledged, write_reply_is}
 use Rattle.promise_kept.proofs.WriteStages.{ran_alone}
 use Rattle.promise_kept.specs.Lines.{IsLine, StepsPlainly}
@@ -36,14 +38,14 @@ use Rattle.write_plan.specs.Plans.{Writing, begun_write}
 use Rattle.promise_kept.proofs.CallLines.{call_keeps, refused_call}
 use Rattle.promise_kept.proofs.ReadLines.{read_goes}
 
-module _ (old new : Moment) (learnt : ℕ → List Entry) (held : ℕ → Option Begun) (settled : Option Logs)
-    (was : IsPlainOf old (plain_at old.core.settings old.keepers.told learnt held settled)) (write : CheckedWrite) (reply : Reply)
+module _ (old new : Moment) (learnt : ℕ → List Entry) (saw : ℕ → List SeenVersion) (held : ℕ → Option Begun) (settled : Option Logs)
+    (was : IsPlainOf old (plain_at old.core.settings old.keepers.told learnt saw held settled)) (write : CheckedWrite) (reply : Reply)
     (line : IsLine (asks.Call (call.Write write)) old reply new) where
   abbrev s : Settings
   s = old.core.settings
 
   abbrev Before : Plain
-  Before = plain_at old.core.settings old.keepers.told learnt held settled
+  Before = plain_at old.core.settings old.keepers.told learnt saw held settled
 
   abbrev Began : Begun
   Began = begun_now Before (call.Write write)
@@ -52,7 +54,7 @@ module _ (old new : Moment) (learnt : ℕ → List Entry) (held : ℕ → Option
   Was = stores_in old.core.settings old.keepers.told
 
   write_ends : (after : HeldPlan) → new.core.plans ≡ old.core.plans → OfWrite (WritesThrough s Began write Was.logs) after (world_of new)
-      → IsOver after reply → next_stage after ≡ None → LearnsOf after (learnt_with reply after) old.core.sessions new.core.sessions
+      → IsOver after reply → next_stage after ≡ None → LearnsOf (pens_of new.core.fleet.stores) after reply old.core.sessions new.core.sessions
       → StepsPlainly (Some (asks.Call (call.Write write))) old Before reply new
   write_ends (of.Read q) plans through over none learns = absurd through
   write_ends (of.Write q) plans through over none learns =
@@ -65,14 +67,16 @@ module _ (old new : Moment) (learnt : ℕ → List Entry) (held : ℕ → Option
         other = others_few s new.keepers.told new.core.fleet q regions through.are.stores through.under;
       }) in
       let learnt_now = learnt_after number told learnt in
-      call_keeps old new learnt held settled was (call.Write write) reply line learnt_now (learnt_grows number told learnt)
-      (write_says s old.keepers.told new.keepers.told Began write learnt_now held settled q reply
-      (λ c committed_is unrefused reply_is. acknowledged s Began write Was.logs q new.keepers so none c committed_is unrefused learnt_now held settled
+      let saw_now = saw_after Began reply saw in
+      call_keeps old new learnt saw held settled was (call.Write write) reply line learnt_now (learnt_grows number told learnt)
+      (write_says s old.keepers.told new.keepers.told Began write learnt_now saw_now held settled q reply
+      (λ c committed_is unrefused reply_is. acknowledged s Began write Was.logs q new.keepers so none c committed_is unrefused learnt_now saw_now held settled
       (has_told s Began write Was.logs q new.keepers so reply learnt c reply_is))
       (write_reply_is s Began write Was.logs q new.keepers so reply over))
       (ran_alone (types_of s.schema) Was.logs (write_of write) (stores_in s new.keepers.told).logs q.committed q.job so.ran)
-      (seen_then old new line.on Before learnt_now held was
-      (learns_both number told old.core.sessions new.core.sessions learnt few learns was.learnt)
+      (seen_then old new line.on Before learnt_now saw_now held was
+      (write_floors learnt_now saw new.core.sessions
+      (learns_both number told old.core.sessions new.core.sessions learnt saw few learns was.learnt) Began write reply)
       (λ n plan at. held_rests old new line.on held was.held n plan (subst (λ ps. plan_at ps n ≡ Some plan) plans at)))
 
   write_goes : CallGoes true (call.Write write) old reply new → StepsPlainly (Some (asks.Call (call.Write write))) old Before reply new
@@ -95,14 +99,14 @@ module _ (old new : Moment) (learnt : ℕ → List Entry) (held : ℕ → Option
 
 -- ---- whatever the call
 
-pub call_line : (old new : Moment) (learnt : ℕ → List Entry) (held : ℕ → Option Begun) (settled : Option Logs) (asked : CheckedCall) (reply : Reply)
-    → IsPlainOf old (plain_at old.core.settings old.keepers.told learnt held settled) → IsLine (asks.Call asked) old reply new
-    → StepsPlainly (Some (asks.Call asked)) old (plain_at old.core.settings old.keepers.told learnt held settled) reply new
-call_line old new learnt held settled asked reply was line = by asked line line.answers
+pub call_line : (old new : Moment) (learnt : ℕ → List Entry) (saw : ℕ → List SeenVersion) (held : ℕ → Option Begun) (settled : Option Logs) (asked : CheckedCall) (reply : Reply)
+    → IsPlainOf old (plain_at old.core.settings old.keepers.told learnt saw held settled) → IsLine (asks.Call asked) old reply new
+    → StepsPlainly (Some (asks.Call asked)) old (plain_at old.core.settings old.keepers.told learnt saw held settled) reply new
+call_line old new learnt saw held settled asked reply was line = by asked line line.answers
   where
     by : (one : CheckedCall) (of_line : IsLine (asks.Call one) old reply new) → AnswersCall true one old reply new
-        → StepsPlainly (Some (asks.Call one)) old (plain_at old.core.settings old.keepers.told learnt held settled) reply new
-    by (call.Read read) of_line (inl goes) = read_goes old new learnt held settled was read reply of_line goes
-    by (call.Write write) of_line (inl goes) = write_goes old new learnt held settled was write reply of_line goes
-    by (call.Read read) of_line (inr refuses) = refused_call old new learnt held settled was (call.Read read) reply of_line refuses
-    by (call.Write write) of_line (inr refuses) = refused_call old new learnt held settled was (call.Write write) reply of_line refuses
+        → StepsPlainly (Some (asks.Call one)) old (plain_at old.core.settings old.keepers.told learnt saw held settled) reply new
+    by (call.Read read) of_line (inl goes) = read_goes old new learnt saw held settled was read reply of_line goes
+    by (call.Write write) of_line (inl goes) = write_goes old new learnt saw held settled was write reply of_line goes
+    by (call.Read read) of_line (inr refuses) = refused_call old new learnt saw held settled was (call.Read read) reply of_line refuses
+    by (call.Write write) of_line (inr refuses) = refused_call old new learnt saw held settled was (call.Write write) reply of_line refuses

@@ -1,6 +1,6 @@
 -- How a core at a moment is seen as a state of the promise. What the moment doesn't have is a relation: what each session has learnt, the beginnings of the
 -- calls that are held, and the logs of the last settle.
-use Rattle.std.specs.Prelude.{ℕ, ◌≡◌, ◌≤◌, ◌⊎◌, ⊤, Contains, IfSome, List, [], Option, Some, None, length, take, true}
+use Rattle.std.specs.Prelude.{ℕ, ◌≡◌, ◌≤◌, ◌⊎◌, ⊤, Contains, IfSome, List, [], Option, Some, None, length, max, take, true}
 use Rattle.std.specs.Option.{option_map_or}
 use Rattle.core_model.specs.Stores.{stores_in}
 use Rattle.core_plans.specs.Held.{learnt_of_write, plan_at}
@@ -12,7 +12,8 @@ use Rattle.core_sessions.specs.Sessions.{Session, session_at}
 use Rattle.core_steps.specs.declared.jobs.LearntEntry.{LearntEntry}
 use Rattle.graph_model.specs.Legal.{floor}
 use Rattle.graph_model.specs.Log.{version}
-use Rattle.plain_promise.specs.Promise.{AreSameLogs, Begun, EachGrows, Logs, Plain, client_write_of, log_read, log_written}
+use Rattle.plain_promise.specs.Promise.{AreSameLogs, Begun, EachGrows, Logs, Plain, SeenVersion, client_write_of, floor_at_start, last_seen}
+use Rattle.plain_promise.specs.Promise.{log_read, log_written}
 use Rattle.read_plan.specs.Readings.{Reading}
 use Rattle.request_check.specs.declared.checked.CheckedCall.{CheckedCall}
 use Rattle.request_check.specs.declared.checked.CheckedCall.TheVariants as call
@@ -50,9 +51,9 @@ floors_of sessions number = option_map_or (λ (s : Session). s.floors) (session_
 
 -- ---- sessions
 
--- a session's floors are those of the entries that it has learnt of
-pub record FloorsAre (learnt : List Entry) (floors : List (Key × ℕ)) : Type 0 where
-  pub at : (key : Key) → floor_at floors key ≡ floor learnt key
+-- a session's floors are those of the entries that it has learnt of, and of the versions that its reads have answered
+pub record FloorsAre (learnt : List Entry) (seen : List SeenVersion) (floors : List (Key × ℕ)) : Type 0 where
+  pub at : (key : Key) → floor_at floors key ≡ max (floor learnt key) (last_seen seen key)
 
 -- ---- settles
 
@@ -72,7 +73,8 @@ HasLast s keepers settled p = (logs : Logs) → settled ≡ Some logs → AreSam
 pub record IsReadFor (s : Settings) (keepers : KeeperState) (began : Begun) (call : CheckedRead) (p : Reading) : Type 0 where
   pub query_is : p.query ≡ call.query
   pub critical_is : p.critical ≡ call.critical
-  pub floor_is : p.floor ≡ floor began.learnt (query_key call.query)
+  pub floor_is : p.floor ≡ floor_at_start began (query_key call.query)
+  pub reader_is : p.reader ≡ Some call.session
   pub whole : MissesNone true s (version (log_read began.logs call) (query_key call.query)) p keepers
   pub last : HasLast s keepers began.settled p
 
@@ -158,10 +160,11 @@ AreBegun m held = (number : ℕ) (plan : HeldPlan) → plan_at m.core.plans numb
 -- the state is what a caller knows of the core and its keepers at the moment
 pub record IsPlainOf (m : Moment) (plain : Plain) : Type 0 where
   pub stores : plain.stores ≡ stores_at m
-  pub learnt : (number : ℕ) → FloorsAre (plain.learnt number) (floors_of m.core.sessions number)
+  pub learnt : (number : ℕ) → FloorsAre (plain.learnt number) (plain.seen number) (floors_of m.core.sessions number)
   pub held : AreBegun m plain.held
   pub settled : IsSettledSince m plain.settled
 
--- a core that was just opened: nobody has learnt of anything, no call is held, and nothing was settled
+-- a core that was just opened: nobody has learnt of anything or seen any, no call is held, and nothing was settled
 abbrev pub opened_plain : Moment → Plain
-opened_plain m = record { stores = stores_at m; learnt = λ session. []; held = λ plan. None; settled = None }
+opened_plain m =
+    record { stores = stores_at m; learnt = λ session. []; seen = λ session. []; held = λ plan. None; settled = None }

@@ -1,5 +1,6 @@
-//! That each line keeps the promise.
+//! That each line keeps the promise, and how a session begins.
 ghost use Rattle.promise_kept.specs.Lines.{CallsKeepPromise, KeptAnswersAgain, OthersKeepPromise};
+ghost use Rattle.promise_kept.specs.Openings.{OpensAtZero};
 ghost use Rattle.promise_kept.specs.Requests.{RequestsKeepPromise};
 
 /// The lines of calls, held or not, and those that open a session, keep the promise.
@@ -24,4 +25,10 @@ pub fn requests_keep_promise()
 #[tactic(auto, using(crate::proofs::Again::kept_answers_again))]
 pub fn kept_answers_again()
     ensures { KeptAnswersAgain }
+{}
+
+/// A session that is opened has the floor 0 at each key: nothing of an earlier run is in it.
+#[tactic(auto, using(crate::proofs::Beginnings::opens_at_zero))]
+pub fn opens_at_zero()
+    ensures { OpensAtZero }
 {}

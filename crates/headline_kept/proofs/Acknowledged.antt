@@ -1,9 +1,7 @@
 -- What was acknowledged stands.
-use Rattle.std.proofs.Common.{◌≡◌, ◌≢◌, ◌∙◌, ◌<◌, ℕ, zero, suc, Bool, true, List, [], ◌∷◌, Option, Some, None, Ok, refl, sym, ap, subst, inl, inr, arith}
-use Rattle.std.proofs.lemmas.Bool.{cases_order, eq-eqb}
-use Rattle.std.proofs.lemmas.List.Elements.{recursion_from_All}
-use Rattle.std.specs.List.{AllByRecursion}
-use Rattle.std.specs.Prelude.{◌⊎◌, IfSome, drop, length, option_and_then, slice_get, take, unwrap_or}
+use Rattle.std.proofs.Common.{◌≡◌, ◌∙◌, ℕ, Bool, true, Option, Some, None, Ok, refl, sym, ap, subst, inl, inr}
+use Rattle.std.proofs.lemmas.Bool.{eq-eqb}
+use Rattle.std.specs.Prelude.{◌⊎◌, drop, length, option_and_then, unwrap_or}
 use Rattle.core_model.proofs.KeptStores.{sound_logs}
 use Rattle.core_model.proofs.Places.{one_some}
 use Rattle.core_model.specs.Stores.{AreKeptIn, HaveMasterRegions, master_log, master_store}
@@ -16,9 +14,9 @@ use Rattle.core_plans.specs.declared.held.HeldPlan.TheVariants as of
 use Rattle.core_sessions.specs.Sessions.{Session}
 use Rattle.core_steps.specs.Writes.{AuthoredWrite}
 use Rattle.graph_model.specs.Log.{entry_at}
-use Rattle.graph_model.specs.Soundness.{IsSound}
 use Rattle.graph_model.specs.Told.{WhereTold}
 use Rattle.node_name.specs.declared.NodeName.{NodeName}
+use Rattle.promise_kept.proofs.Entries.{each_once}
 use Rattle.replies.specs.declared.calls.CallReply.TheVariants as called
 use Rattle.replies.specs.declared.calls.InverseEnd.{InverseEnd}
 use Rattle.replies.specs.declared.plans.Stage.{Stage}
@@ -56,14 +54,14 @@ use Rattle.write_plan.specs.declared.progress.OtherEnd.TheVariants.{Due, Merged,
 use Rattle.write_plan.specs.declared.progress.WayBack.{WayBack}
 use Rattle.write_plan.specs.declared.progress.WayBack.TheVariants.{Ahead, Applied, Relayed}
 use Rattle.headline_kept.specs.Refusing.{WritesStand}
-use Rattle.headline_kept.specs.Standing.{Asks, IsOwn, StandsAt, StandsWhen, acknowledged, write_of, write_of_call, write_of_plan}
+use Rattle.headline_kept.specs.Standing.{Asks, StandsAt, StandsWhen, acknowledged, write_of, write_of_call, write_of_plan}
 use Rattle.headline_kept.specs.Standing.{written_at}
 use Rattle.headline_kept.proofs.StageCauses.{RefusedBy, was_unrefused, write_stage_fails}
 use Rattle.headline_kept.proofs.WholeCauses.{Commits, Rests, WriteRuns, committed_entry, moves, stands_when, write_runs}
 
 -- ---- what an Ok reply tells
 
-told_entry : (retry : Bool) (inverse : InverseEnd) (entry : Option Entry) (position : ℕ) → written_at (written_by retry inverse entry) ≡ Some position
+pub told_entry : (retry : Bool) (inverse : InverseEnd) (entry : Option Entry) (position : ℕ) → written_at (written_by retry inverse entry) ≡ Some position
     → (e : Entry) × (entry ≡ Some e) × (e.position ≡ position)
 told_entry retry inverse None position is = absurd (cc)
 told_entry retry inverse (Some e) position is = (e, refl, cc)
@@ -105,33 +103,8 @@ stands_later tells s old new write position grows told at =
       stands = subst (λ xs. entry_at xs position ≡ Some at.entry) (begins-rest log whole (grows.begins told (master_store s shard)))
           (entry_at-more log (drop (length log) whole) position at.entry at.stands);
       fits = at.fits;
+      own = at.own;
     }
-
--- ---- each origin comes once
-
-front_at : {X : Type 0} (P : X → Type 0) (xs : List X) (m n : ℕ) (x : X) → AllByRecursion P (take m xs) → slice_get xs n ≡ Some x → n < m → P x
-front_at P [] m n x all at lt = absurd (cc)
-front_at P (y ∷ ys) zero n x all at lt = absurd (omega (arith, lt))
-front_at P (y ∷ ys) (suc m) zero x all at lt = subst P (one_some y x at) all.0
-front_at P (y ∷ ys) (suc m) (suc n) x all at lt = front_at P ys m n x all.1 at (omega (arith, lt))
-
--- no entry has the origin of an earlier one
-later_differs : (log : List Entry) → IsSound log → (m n : ℕ) (d e : Entry) → slice_get log m ≡ Some d → slice_get log n ≡ Some e → d.origin ≡ e.origin
-    → m < n → ⊥
-later_differs log sound m n d e at here same lt =
-    front_at (λ old. old.origin ≢ e.origin) log n m d (recursion_from_All (λ old. old.origin ≢ e.origin) (take n log) (sound n e here).new_origin) at lt same
-
-once_at : (log : List Entry) → IsSound log → (first second : ℕ) (d e : Entry) → entry_at log first ≡ Some d → entry_at log second ≡ Some e
-    → d.origin ≡ e.origin → first ≡ second
-once_at log sound zero second d e at here same = absurd (cc)
-once_at log sound (suc m) zero d e at here same = absurd (cc)
-once_at log sound (suc m) (suc n) d e at here same = elim (cases_order m n) [
-  | inl is ↦ ap suc is
-  | inr apart ↦ elim apart [
-    | inl lt ↦ absurd (later_differs log sound m n d e at here same lt)
-    | inr gt ↦ absurd (later_differs log sound n m e d here at (sym same) gt)
-  ]
-]
 
 -- ---- stages that are left behind a commit
 
@@ -142,7 +115,7 @@ back_left None Relayed before is = absurd (cc)
 back_left (Some leader) Relayed before is = absurd (cc)
 back_left passed Applied before is = absurd before
 
-way_left : (owed : Option Job) (job : OtherEnd) (passed : Option NodeName) (back : WayBack) → IsBefore back
+pub way_left : (owed : Option Job) (job : OtherEnd) (passed : Option NodeName) (back : WayBack) → IsBefore back
     → stage_said (unwrap_or (option_and_then (λ _. job_stage job) owed) (back_stage passed back)) ≡ None → ⊥
 way_left None job passed back before is = back_left passed back before is
 way_left (Some j) Due passed back before is = absurd (cc)
@@ -188,28 +161,17 @@ module _ (tells : Bool) (old : Moment) (request : Request) (reply : Reply) (new 
   abbrev Stands : AuthoredWrite → Type 0
   Stands write = WhereTold tells (StandsAt s new.keepers.told write position)
 
-  abbrev Both : AuthoredWrite → Type 0
-  Both write = Stands write × WhereTold tells (IsOwn s new.keepers.told write position)
-
   -- ---- a write that isn't held
 
   runs_stand : (p : Writing) (q : HeldPlan) → OfWrite (WriteRuns (rules_of tells s) (world_of old) p) q (world_of new) → IsOver q reply
-      → Both (call_of_plan p)
+      → Stands (call_of_plan p)
   runs_stand p (of.Write q) runs over =
       let ack = acknowledges _ q.refused q.committed q.job q.hops reply position runs.fails over told in
-      let when = ap when_of ack.1 in
-      let stands = subst (StandsWhen tells s new.keepers.told (Some (call_of_plan p))) when runs.stands in
-      let log = master_log s new.keepers.told (write_shard p.write) in
-      let there = subst (λ o. IfSome o (λ e. WhereTold tells (entry_at log e.position ≡ Some e))) ack.1 runs.there in
-      let own = subst (λ o. IfSome o (λ e. WhereTold tells (e.origin ≡ p.origin))) ack.1 runs.own in (
-        λ so. subst (StandsAt s new.keepers.told (call_of_plan p)) ack.2 (stands so),
-        λ so e at.
-            let same : Some e ≡ Some ack.0 = sym at ∙ subst (λ n. entry_at log n ≡ Some ack.0) ack.2 (there so) in
-            ap (λ (x : Entry). x.origin) (one_some e ack.0 same) ∙ own so,
-      )
+      let stands = subst (StandsWhen tells s new.keepers.told (Some (call_of_plan p))) (ap when_of ack.1) runs.stands in
+      λ so. subst (StandsAt s new.keepers.told (call_of_plan p)) ack.2 (stands so)
   runs_stand p (of.Read q) runs over = absurd runs
 
-  write_stands : (p : Writing) → p.committed ≡ None → p.refused ≡ None → DoesAtOnce tells (of.Write p) old reply new → Both (call_of_plan p)
+  write_stands : (p : Writing) → p.committed ≡ None → p.refused ≡ None → DoesAtOnce tells (of.Write p) old reply new → Stands (call_of_plan p)
   write_stands p none never does =
       runs_stand p does.after (write_runs (rules_of tells s) (world_of old) p regions does.after (world_of new) none never does.carries) does.over
 
@@ -217,12 +179,12 @@ module _ (tells : Bool) (old : Moment) (request : Request) (reply : Reply) (new 
   not_begun_told made (Refused refusal) is not = absurd (cc)
   not_begun_told made r is not = absurd not
 
-  call_stands : (made : CheckedCall) (write : AuthoredWrite) → write_of_call made ≡ Some write → AnswersCall tells made old reply new → Both write
+  call_stands : (made : CheckedCall) (write : AuthoredWrite) → write_of_call made ≡ Some write → AnswersCall tells made old reply new → Stands write
   call_stands (call.Write made) write is (inl goes) =
       let b = goes.begun in
       let p = begun_write made.write (Client made.session made.seq) b.session.region b.session.tier b.follower in
       let same : call_of_plan p ≡ write = one_some _ _ is in
-      subst Both same (write_stands p refl refl (subst (λ x. DoesAtOnce tells x old reply new) b.plan_is goes.does))
+      subst Stands same (write_stands p refl refl (subst (λ x. DoesAtOnce tells x old reply new) b.plan_is goes.does))
   call_stands (call.Read made) write is (inl goes) = absurd (cc)
   call_stands made write is (inr refuses) = absurd (not_begun_told made reply told refuses.refused)
 
@@ -259,7 +221,9 @@ module _ (tells : Bool) (old : Moment) (request : Request) (reply : Reply) (new 
         by_move q ack.0 (was_unrefused (rules_of tells s) p q (world_of old) (world_of new) steps)
         (moves (rules_of tells s) p q (world_of old) (world_of new) steps) ack.1 ack.2 over
     stage_stands (of.Read q) (inl steps) over so = absurd steps
-    stage_stands q (inr without) over so = absurd (refused_told _ so.ended (subst (λ x. IsOver x so.ended) without.then so.over) so.told)
+    stage_stands (of.Write q) (inr without) over so =
+        absurd (refused_told _ so.ended (subst (λ x. IsOver (of.Write x) so.ended) without.gives.0 so.over) so.told)
+    stage_stands (of.Read q) (inr without) over so = absurd without.gives
 
   -- a write that is advanced
   advance_stands : (number : ℕ) (before : HeldPlan) (q : HeldPlan) (write : AuthoredWrite) → plan_at old.core.plans number ≡ Some before
@@ -297,7 +261,7 @@ module _ (tells : Bool) (old : Moment) (request : Request) (reply : Reply) (new 
 
   asked_stands : (what : Checked) (write : AuthoredWrite) → write_of old.core.plans what ≡ Some write → AnswersAsked tells old (Ok what) reply new
       → Stands write
-  asked_stands (asked.Call made) write is h = (call_stands made write is h).0
+  asked_stands (asked.Call made) write is h = call_stands made write is h
   asked_stands (asked.Plan (plan.Hold number made)) write is (inl goes) = hold_stands number made write is goes
   asked_stands (asked.Plan (plan.Hold number made)) write is (inr refuses) = absurd (not_begun_told made reply told refuses.refused)
   asked_stands (asked.Plan (plan.Advance number)) write is h =
@@ -318,13 +282,10 @@ writes_stand = record {
     written = λ what write position asks of_it told.
         asked_stands tells old request reply new is.before is.after position told what write of_it
         (answered tells old request reply new is.before is.after position told what asks is.answers);
-    own = λ made write position asks of_it told.
-        (call_stands tells old request reply new is.before is.after position told made write of_it
-        (answered tells old request reply new is.before is.after position told (asked.Call made) asks is.answers)).1;
     stays = λ write position told.
         stands_later tells old.core.settings old.keepers.told new.keepers.told write position is.after.grows.logs told;
     once = λ shard here told.
         let kept = subst (λ s. AreKeptIn s new.keepers.told) is.after.settings (is.after.keepers.is_consistent.consistent.stores.kept told) in
-        record { once = once_at (master_log old.core.settings new.keepers.told shard) (sound_logs old.core.settings new.keepers.told kept shard here).sound };
+        each_once (master_log old.core.settings new.keepers.told shard) (sound_logs old.core.settings new.keepers.told kept shard here).sound;
   };
 }

@@ -19,6 +19,7 @@ use Rattle.core_steps.specs.OtherEnds.{master_leader}
 use Rattle.core_steps.specs.Writes.{AuthoredWrite, asked_of_log}
 use Rattle.graph_model.specs.Told.{WhereTold}
 use Rattle.node_name.specs.declared.NodeName.{NodeName}
+use Rattle.plain_promise.specs.Promise.{refused_at}
 use Rattle.read_plan.specs.Readings.{Reading}
 use Rattle.replies.specs.declared.refusals.NodeRefused.TheVariants.{NoServer, NodeDown}
 use Rattle.replies.specs.declared.refusals.Refusal.{Refusal}
@@ -46,7 +47,6 @@ use Rattle.topology.specs.States.{NodeStates, is_up}
 use Rattle.write_plan.specs.Plans.{Writing, answered_entry, reply_by, when_of}
 use Rattle.write_plan.specs.declared.committed.Committed.{Committed}
 use Rattle.headline_kept.specs.Causes.{FullCause, HasCause, HasNoLeader, NodeCause, OfWrite}
-use Rattle.headline_kept.specs.Histories.{refused_position}
 use Rattle.headline_kept.specs.Standing.{Asks, StandsAt, StandsWhen, write_of}
 use Rattle.headline_kept.proofs.StageCauses.{ReadCause, RefusedBy, WriteCause, WriteTerms, refusal_so}
 use Rattle.headline_kept.proofs.WholeCauses.{AnyDown, ReadRuns, WriteRuns, read_runs, whole_terms, write_runs}
@@ -56,7 +56,7 @@ use Rattle.headline_kept.proofs.WholeCauses.{AnyDown, ReadRuns, WriteRuns, read_
 -- the refusal has its cause, and where it tells no position no table changed
 pub record Refuses (tells : Bool) (old : Moment) (request : Request) (refusal : Refusal) (new : Moment) : Type 0 where
   pub cause : HasCause tells old request refusal new
-  pub same : nat_lt 0 (refused_position refusal) ≡ false → KeepsTables tells old.keepers new.keepers
+  pub same : nat_lt 0 (refused_at refusal) ≡ false → KeepsTables tells old.keepers new.keepers
 
 -- a plan ended with this refusal, and not with an Ok reply
 refused_reply : (refused : Option Reply) (committed : Option Committed) (job : _) (hops : ℕ) (refusal : Refusal)
@@ -137,11 +137,11 @@ no_zero s tables call (suc n) small at = (let le = ltb-false 0 (suc n) small in 
 
 -- where a fault tells no position, there is no entry
 pub no_entry_told : (tells : Bool) (s : Settings) (tables : Tables) (call : AuthoredWrite) (count : ℕ) (when : When) (entry : Option Entry)
-    → when ≡ when_of entry → StandsWhen tells s tables (Some call) (when_of entry) → nat_lt 0 (refused_position (Store (LinkFault count when))) ≡ false
+    → when ≡ when_of entry → StandsWhen tells s tables (Some call) (when_of entry) → nat_lt 0 (refused_at (Store (LinkFault count when))) ≡ false
     → WhereTold tells (entry ≡ None)
 no_entry_told tells s tables call count when None is stands small told = refl
 no_entry_told tells s tables call count when (Some e) is stands small told =
-    absurd (no_zero s tables call e.position (subst (λ w. nat_lt 0 (refused_position (Store (LinkFault count w))) ≡ false) is small) (stands told))
+    absurd (no_zero s tables call e.position (subst (λ w. nat_lt 0 (refused_at (Store (LinkFault count w))) ≡ false) is small) (stands told))
 
 -- ---- who is down, and who can't be chosen
 
@@ -257,7 +257,7 @@ module _ (tells : Bool) (mid new : Moment) (refusal : Refusal) where
 
   -- its tables are as they were, where it tells no position
   write_tables : (p : Writing) (entry : Option Entry) (told : Refusal) → WriteCause (OnceTerms p entry) (outside_at mid) (outside_at new) told
-      → StandsWhen tells settings new.keepers.told (Some (call_of_plan p)) (when_of entry) → nat_lt 0 (refused_position told) ≡ false
+      → StandsWhen tells settings new.keepers.told (Some (call_of_plan p)) (when_of entry) → nat_lt 0 (refused_at told) ≡ false
       → WhereTold tells (entry ≡ None)
   write_tables p entry (Store (SeqReused position)) h stands small told = h.0
   write_tables p entry (Store (ShardFull serial)) h stands small told = h.0
@@ -276,7 +276,7 @@ module _ (tells : Bool) (mid new : Moment) (refusal : Refusal) where
     pub entry : Option Entry
     pub cause : WriteCause (OnceTerms p entry) (outside_at mid) (outside_at new) refusal
     pub stands : StandsWhen tells settings new.keepers.told (Some (call_of_plan p)) (when_of entry)
-    pub same : nat_lt 0 (refused_position refusal) ≡ false → KeepsTables tells mid.keepers new.keepers
+    pub same : nat_lt 0 (refused_at refusal) ≡ false → KeepsTables tells mid.keepers new.keepers
 
   write_over : (p : Writing) (after : HeldPlan) → IsBegun (of.Write p) → is_up mid.core.states p.follower ≡ true → IsOut (of.Write p) after
       → OfWritePlan (WriteRuns (rules_of tells settings) (world_of mid) p) after (world_of new) → IsOver after (Refused refusal) → RefusedOnce p

@@ -1,5 +1,6 @@
 -- The entries that a write brings to nodes stand in the logs of their shards.
-use Rattle.std.proofs.Common.{◌≡◌, ◌<◌, ◌≤◌, ◌∙◌, ◌+◌, ◌++◌, ◌∷◌, [], ℕ, Bool, List, Option, Some, None, length, drop, take, sym, ap, subst, inl, inr, arith}
+use Rattle.std.proofs.Common.{◌≡◌, ◌<◌, ◌≤◌, ◌∙◌, ◌+◌, ◌++◌, ◌∷◌, [], ℕ, Bool, List, Option, Some, None, length, drop, take, refl, sym, ap}
+use Rattle.std.proofs.Common.{subst, inl, inr, arith}
 use Rattle.std.proofs.lemmas.List.{get_or-set_same, length-take}
 use Rattle.std.specs.List.{AllByRecursion}
 use Rattle.std.specs.Prelude.{IfSome, option_to_list}
@@ -10,10 +11,11 @@ use Rattle.core_model.specs.Stores.{AreStoresOf, HaveMasterRegions, master_log, 
 use Rattle.core_model.specs.Writes.{IsSeenEntry}
 use Rattle.core_nodes.proofs.JobLemmas.{of_job}
 use Rattle.core_nodes.specs.Repairs.{WritesDueEntry, owed_entry}
-use Rattle.core_plans.specs.HeldWrites.{IsAnswerTo}
+use Rattle.core_plans.specs.HeldWrites.{IsAnswerTo, call_of_plan}
 use Rattle.core_steps.proofs.ReadLemmas.{log_is}
 use Rattle.core_steps.proofs.WriteLemmas.{stands_in_log}
 use Rattle.core_steps.specs.World.{World}
+use Rattle.core_steps.specs.Writes.{AuthoredWrite, CanBeApplied}
 use Rattle.graph_model.specs.Log.{entry_at}
 use Rattle.graph_model.specs.Told.{WhereTold}
 use Rattle.headline_kept.specs.Touches.{IsOfWrite, StandsOn}
@@ -21,13 +23,13 @@ use Rattle.master_tables.proofs.Calls.{numbers_are_positions, tables_are_stores}
 use Rattle.shard_log.proofs.Beginnings.{begins-rest}
 use Rattle.shard_log.specs.View.{Begins, View}
 use Rattle.shard_tables.specs.StoreView.{Store}
+use Rattle.shard_tables.specs.declared.writes.Wrote.{Wrote}
 use Rattle.tao_base.specs.Writes.{write_shard}
 use Rattle.tao_base.specs.declared.entry.Entry.{Entry}
 use Rattle.tao_base.specs.declared.entry.Kind.{Kind}
 use Rattle.tao_base.specs.declared.entry.Origin.{Origin}
 use Rattle.tao_base.specs.declared.entry.Origin.TheVariants.{Merge}
 use Rattle.tao_base.specs.declared.entry.Touch.{Touch}
-use Rattle.tao_base.specs.declared.write.Write.{Write}
 use Rattle.tao_keeper.specs.Growing.{LogsGrow}
 use Rattle.tao_keeper.specs.Table.{Tables}
 use Rattle.tao_schema.specs.Schema.{types_of}
@@ -53,9 +55,10 @@ module _ (tells : Bool) (s : Settings) (old new : Tables) (grow : LogsGrow tells
   stands_later shard e stands = λ told.
       stands_on (master_log s old shard) (master_log s new shard) e.position e (grow.begins told (master_store s shard)) (stands told)
 
-  of_write_later : (before : Tables) (write : Write) (e : Entry) → IsOfWrite tells s before old write e → IsOfWrite tells s before new write e
-  of_write_later before write e (inl own) = inl (record { fits = own.fits; stands = stands_later (write_shard write) e own.stands })
-  of_write_later before write e (inr merged) = inr (record {
+  of_write_later : (before : Tables) (call : AuthoredWrite) (e : Entry) → IsOfWrite tells s before old call e → IsOfWrite tells s before new call e
+  of_write_later before call e (inl own) =
+      inl (record { fits = own.fits; own = own.own; stands = stands_later (write_shard call.write) e own.stands })
+  of_write_later before call e (inr merged) = inr (record {
     shard = merged.shard;
     position = merged.position;
     gained = merged.gained;
@@ -63,15 +66,15 @@ module _ (tells : Bool) (s : Settings) (old new : Tables) (grow : LogsGrow tells
     origin_is = merged.origin_is;
   })
 
-  pub all_later : (before : Tables) (write : Write) (es : List Entry) → AllByRecursion (IsOfWrite tells s before old write) es
-      → AllByRecursion (IsOfWrite tells s before new write) es
-  all_later before write [] all = tt
-  all_later before write (e ∷ es) all = (of_write_later before write e all.0, all_later before write es all.1)
+  pub all_later : (before : Tables) (call : AuthoredWrite) (es : List Entry) → AllByRecursion (IsOfWrite tells s before old call) es
+      → AllByRecursion (IsOfWrite tells s before new call) es
+  all_later before call [] all = tt
+  all_later before call (e ∷ es) all = (of_write_later before call e all.0, all_later before call es all.1)
 
   -- and what a log gained since later tables it gained since the earlier ones
-  of_write_since : (now : Tables) (write : Write) (e : Entry) → IsOfWrite tells s new now write e → IsOfWrite tells s old now write e
-  of_write_since now write e (inl own) = inl own
-  of_write_since now write e (inr merged) = inr (record {
+  of_write_since : (now : Tables) (call : AuthoredWrite) (e : Entry) → IsOfWrite tells s new now call e → IsOfWrite tells s old now call e
+  of_write_since now call e (inl own) = inl own
+  of_write_since now call e (inr merged) = inr (record {
     shard = merged.shard;
     position = merged.position;
     gained = λ told.
@@ -82,12 +85,16 @@ module _ (tells : Bool) (s : Settings) (old new : Tables) (grow : LogsGrow tells
     origin_is = merged.origin_is;
   })
 
-  pub all_since : (now : Tables) (write : Write) (es : List Entry) → AllByRecursion (IsOfWrite tells s new now write) es
-      → AllByRecursion (IsOfWrite tells s old now write) es
-  all_since now write [] all = tt
-  all_since now write (e ∷ es) all = (of_write_since now write e all.0, all_since now write es all.1)
+  pub all_since : (now : Tables) (call : AuthoredWrite) (es : List Entry) → AllByRecursion (IsOfWrite tells s new now call) es
+      → AllByRecursion (IsOfWrite tells s old now call) es
+  all_since now call [] all = tt
+  all_since now call (e ∷ es) all = (of_write_since now call e all.0, all_since now call es all.1)
 
 -- ---- the write's own entry
+
+-- the entry, where there is one, is under the origin, where the tables are told
+abbrev pub IsUnder : Bool → Origin → Option Entry → Type 0
+IsUnder tells origin entry = WhereTold tells (IfSome entry (λ e. e.origin ≡ origin))
 
 module _ (tells : Bool) (s : Settings) (tables : Tables) (stores : List Store) (regions : HaveMasterRegions s) (are : AreStoresOf tells s tables stores) where
   seen_stands : (shard : ℕ) (note : View) (e : Entry) → shard < s.shards → IsSeenEntry (pens_of stores) shard note e → StandsOn tells s tables shard e
@@ -96,16 +103,25 @@ module _ (tells : Bool) (s : Settings) (tables : Tables) (stores : List Store) (
       let stands = stands_in_log (pens_of stores) shard note (Some e) seen in
       subst (λ l. entry_at l e.position ≡ Some e) (log.entries_is told) (stands (log.told_is ∙ told))
 
-  own_by : (before : Tables) (write : Write) (note : View) (entry : Option Entry) → write_shard write < s.shards → IfSome entry (λ e. FitsWrite e write)
-      → IfSome entry (IsSeenEntry (pens_of stores) (write_shard write) note)
-      → AllByRecursion (IsOfWrite tells s before tables write) (option_to_list entry)
-  own_by before write note None here fits seen = tt
-  own_by before write note (Some e) here fits seen = (inl (record { fits = fits; stands = seen_stands (write_shard write) note e here seen }), tt)
+  own_by : (before : Tables) (call : AuthoredWrite) (wrote : Wrote) (entry : Option Entry) → wrote.entry ≡ entry → write_shard call.write < s.shards
+      → IsUnder tells call.origin entry → CanBeApplied call wrote stores
+      → AllByRecursion (IsOfWrite tells s before tables call) (option_to_list entry)
+  own_by before call wrote None is here own can = tt
+  own_by before call wrote (Some e) is here own can = (
+    inl (record {
+      fits = subst (λ o. IfSome o (λ x. FitsWrite x call.write)) is can.fits;
+      own = own;
+      stands = seen_stands (write_shard call.write) wrote.note e here
+          (subst (λ o. IfSome o (IsSeenEntry (pens_of stores) (write_shard call.write) wrote.note)) is can.seen);
+    }),
+    tt,
+  )
 
   -- what a commit answered is the write's own
-  pub own_answered : (before : Tables) (p : Writing) (c : Committed) → write_shard p.write < s.shards → IsAnswerTo s stores p c
-      → AllByRecursion (IsOfWrite tells s before tables p.write) (option_to_list c.wrote.entry)
-  own_answered before p c here is = own_by before p.write c.wrote.note c.wrote.entry here is.apply.fits is.apply.seen
+  pub own_answered : (before : Tables) (p : Writing) (c : Committed) → write_shard p.write < s.shards → IsUnder tells p.origin c.wrote.entry
+      → IsAnswerTo s stores p c
+      → AllByRecursion (IsOfWrite tells s before tables (call_of_plan p)) (option_to_list c.wrote.entry)
+  own_answered before p c here own is = own_by before (call_of_plan p) c.wrote c.wrote.entry refl here own is.apply
 
 -- ---- the entry that merges at the other end
 
@@ -160,10 +176,10 @@ module _ (s : Settings) (old new : World) (j : ShardJob) (here : far_shard j.job
       subst (λ (x : Entry). entry_at (master_log s new.keepers.told (far_shard j.job)) x.position ≡ Some x) same
       (subst (λ n. entry_at (master_log s new.keepers.told n) merges.merged.position ≡ Some merges.merged) m.of.other_is in_master)
 
-module _ (tells : Bool) (s : Settings) (write : Write) (old new : World) (j : ShardJob) (of : j.shard ≡ write_shard write)
+module _ (tells : Bool) (s : Settings) (call : AuthoredWrite) (old new : World) (j : ShardJob) (of : j.shard ≡ write_shard call.write)
     (here : far_shard j.job < s.shards) where
   pub merged_is : (entry : Option Entry) → WhereTold tells (WritesDueEntry s j entry old.keepers new.keepers)
-      → AllByRecursion (IsOfWrite tells s old.keepers.told new.keepers.told write) (option_to_list entry)
+      → AllByRecursion (IsOfWrite tells s old.keepers.told new.keepers.told call) (option_to_list entry)
   merged_is None writes = tt
   merged_is (Some e) writes = (
     inr (record {

@@ -2,7 +2,7 @@
 use Rattle.std.proofs.Common.{◌≡◌, ◌⊎◌, [], ℕ, Bool, List, Option, Some, Result, Ok, Err, refl, sym, ap, ◌∙◌, subst, inl, inr}
 use Rattle.std.proofs.lemmas.Bool.{eq-eqb}
 use Rattle.std.specs.List.{AllByRecursion}
-use Rattle.std.specs.Prelude.{◌<◌, IfSome, if◌then◌else◌}
+use Rattle.std.specs.Prelude.{◌<◌, IfSome, if◌then◌else◌, option_and_then}
 use Rattle.cache_items.specs.Node.{Node}
 use Rattle.core_model.specs.Consistent.{IsConsistent}
 use Rattle.core_model.specs.Fleet.{ChangesNode, EachIs, EachNode, Fleet}
@@ -12,8 +12,8 @@ use Rattle.core_model.specs.Pens.{pens_of}
 use Rattle.core_model.specs.Stores.{HaveMasterRegions}
 use Rattle.core_model.specs.declared.named.Named.{Named}
 use Rattle.core_plans.specs.Held.{AddsPlan, IsUnderWay, Plans, plan_at}
-use Rattle.core_plans.specs.HeldReads.{StandsSo, wanted_by}
-use Rattle.core_plans.specs.HeldWrites.{IsAnswerTo}
+use Rattle.core_plans.specs.HeldReads.{StandsSo, read_has_no_room, wanted_by}
+use Rattle.core_plans.specs.HeldWrites.{IsAnswerTo, call_of_plan}
 use Rattle.core_plans.specs.LedBy.{Rules, rules_of}
 use Rattle.core_plans.specs.WholeCalls.{CarriesOut}
 use Rattle.core_plans.specs.declared.held.HeldPlan.{HeldPlan}
@@ -23,15 +23,17 @@ use Rattle.core_steps.specs.World.{World}
 use Rattle.follower_cache.specs.Seen.{FollowerState}
 use Rattle.follower_cache.specs.declared.queue.Refill.{Refill}
 use Rattle.headline_kept.proofs.Caches.{EachCache, caches_so, caches_then, each_of_one, each_rests, each_so, same_fleet}
-use Rattle.headline_kept.proofs.ItemReads.{HoldsAt, HoldsOthers, LeavesOthers, NearRead, others_of, stage_leaves, whole_leaves}
+use Rattle.headline_kept.proofs.ItemReads.{HoldsAt, HoldsOthers, LeavesOthers, NearRead, others_of, over_leaves, stage_leaves, whole_leaves}
 use Rattle.headline_kept.proofs.ItemWrites.{TakesAt, TakesEntries, takes_same}
 use Rattle.headline_kept.proofs.NamedLeaders.{leaders_are}
+use Rattle.headline_kept.proofs.ItemEntries.{IsUnder}
 use Rattle.headline_kept.proofs.ItemStages.{Brings, comes_brings, whole_brings}
 use Rattle.headline_kept.proofs.NodeLines.{again_leaves, deliver_leaves, evict_leaves, health_leaves, link_leaves, loss_leaves, no_change, no_fleet}
 use Rattle.headline_kept.proofs.NodeLines.{none_brought, plan_self}
 use Rattle.headline_kept.proofs.ShardLines.{repair_leaves, settle_leaves, stream_leaves}
 use Rattle.headline_kept.specs.Headline.{LinesKeepItems}
-use Rattle.headline_kept.specs.Touches.{IsApartFromPlan, IsAtCall, IsAtPlan, IsLeader, IsOfPlan, KeepsAsked, LeavesAllItems, LeavesItems, StaysByPlan}
+use Rattle.headline_kept.specs.Standing.{write_of_plan}
+use Rattle.headline_kept.specs.Touches.{IsApartFromPlan, IsAtCall, IsAtPlan, IsLeader, IsOfLine, KeepsAsked, LeavesAllItems, LeavesItems, StaysByPlan}
 use Rattle.node_name.specs.declared.NodeName.{NodeName}
 use Rattle.read_plan.specs.Readings.{Reading}
 use Rattle.replies.specs.declared.refusals.Refusal.{Refusal}
@@ -60,7 +62,7 @@ use Rattle.tao_core.specs.StoreReplies.{AnswersStore}
 use Rattle.tao_schema.specs.Schema.{types_of}
 use Rattle.topology.specs.Config.{Settings}
 use Rattle.topology.specs.States.{NodeStates}
-use Rattle.write_plan.specs.Plans.{Writing}
+use Rattle.write_plan.specs.Plans.{Writing, answered_entry}
 use Rattle.write_plan.specs.declared.committed.Committed.{Committed}
 
 -- ---- a plan that did a stage, or all of them
@@ -73,7 +75,7 @@ record LeavesAtPlan (states : NodeStates) (plan : Option HeldPlan) (brought : Li
 -- so at each leader and follower, by what the plan brings
 record LeavesByPlan (tells : Bool) (plan : Option HeldPlan) (old new : Moment) : Type 0 where
   brought : List Entry
-  are : AllByRecursion (IsOfPlan tells old new plan) brought
+  are : AllByRecursion (IsOfLine tells old new (option_and_then write_of_plan plan)) brought
   each : EachCache (λ name from to. LeavesAtPlan old.core.states plan brought name from to) old.core.fleet new.core.fleet
 
 -- a read leaves a node as it was, or is there and leaves what isn't of its key
@@ -114,7 +116,7 @@ module _ (tells : Bool) (old new : Moment) where
       }
 
   by_write : (p : Writing) → EachIs (λ name node. IsLeader name) old.core.fleet.leaders
-      → Brings tells old.core.settings p.write p.follower (world_of old) (world_of new) → LeavesByPlan tells (Some (of.Write p)) old new
+      → Brings tells old.core.settings (call_of_plan p) p.follower (world_of old) (world_of new) → LeavesByPlan tells (Some (of.Write p)) old new
   by_write p leaders brings = record {
     brought = brings.brought;
     are = brings.are;
@@ -159,18 +161,24 @@ module _ (tells : Bool) (old new : Moment) where
     leaders_named : EachIs (λ name node. IsLeader name) old.core.fleet.leaders
     leaders_named = leaders_are s old.core.fleet before_is.fleet
 
-    -- what a plan has before its next stage: what was given to a read is right, and what the commit of a write answered
+    -- what a write has before its next stage: what its commit answered, and on a shard that is configured
+    record HasAnswer (p : Writing) : Type 0 where
+      answer : IfSome p.committed (IsAnswerTo s old.core.fleet.stores p)
+      own : IsUnder tells p.origin (answered_entry p)
+      placed : (c : Committed) → p.committed ≡ Some c → write_shard p.write < s.shards
+
+    -- what a plan has before its next stage: of a read, what was given to it is right
     abbrev IsReady : HeldPlan → Type 0
     IsReady (of.Read p) = StandsSo (types_of s.schema) (pens_of old.core.fleet.stores) (wanted_by p) p.at
-    IsReady (of.Write p) = IfSome p.committed (IsAnswerTo s old.core.fleet.stores p) × ((c : Committed) → p.committed ≡ Some c → write_shard p.write < s.shards)
+    IsReady (of.Write p) = HasAnswer p
 
     under_way : (plan : HeldPlan) → IsUnderWay tells s old.keepers.told old.core.fleet plan → IsReady plan
     under_way (of.Read p) under = under.stands
-    under_way (of.Write p) under = (under.committed, λ c is. under.follower.here)
+    under_way (of.Write p) under = record { answer = under.committed; own = under.own; placed = λ c is. under.follower.here }
 
     begun : (session : Session) (follower : NodeName) (asked : CheckedCall) → IsReady (begun_plan s session follower asked)
     begun session follower (call.Read read) = tt
-    begun session follower (call.Write write) = (tt, λ c is. absurd (cc))
+    begun session follower (call.Write write) = record { answer = tt; own = λ told. tt; placed = λ c is. absurd (cc) }
 
     -- one stage
     stage_by : (plan next : HeldPlan) → IsReady plan → Advances rules plan (world_of old) next (world_of new) → LeavesByPlan tells (Some plan) old new
@@ -178,9 +186,13 @@ module _ (tells : Bool) (old new : Moment) where
         by_read p (stage_leaves rules p q (world_of old) (world_of new) ready steps.steps.does)
     stage_by (of.Read p) (of.Write q) ready (inl steps) = absurd steps
     stage_by (of.Write p) (of.Write q) ready (inl steps) =
-        by_write p leaders_named (comes_brings rules p (world_of old) (world_of new) regions before_is after_is ready.0 ready.1 q steps)
+        by_write p leaders_named
+        (comes_brings rules p (world_of old) (world_of new) regions before_is after_is ready.answer ready.own ready.placed q steps)
     stage_by (of.Write p) (of.Read q) ready (inl steps) = absurd steps
-    stage_by plan next ready (inr ends) = by_none (Some plan) (ap (λ (w : World). w.fleet) ends.same)
+    stage_by (of.Read p) (of.Read q) ready (inr without) = by_read p (over_leaves s read_has_no_room p q (world_of old) (world_of new) without.gives)
+    stage_by (of.Read p) (of.Write q) ready (inr without) = absurd without.gives
+    stage_by (of.Write p) (of.Write q) ready (inr without) = by_none (Some (of.Write p)) (ap (λ (w : World). w.fleet) without.gives.1)
+    stage_by (of.Write p) (of.Read q) ready (inr without) = absurd without.gives
 
     -- all stages of a call
     whole_by : (session : Session) (follower : NodeName) (asked : CheckedCall) (later : HeldPlan)

@@ -9,8 +9,9 @@ use Rattle.core_model.specs.Pens.{Pens, pens_of}
 use Rattle.core_model.specs.Reads.{AfterLook, EndsAsk, IsGivenAnswer, LeaderAnswers, LooksFirst, StoreCalls, Wanted}
 use Rattle.core_model.specs.declared.named.Named.{Named}
 use Rattle.core_plans.proofs.InTurn.{read_same}
+use Rattle.core_plans.proofs.ReadRefusals.{over_refused}
 use Rattle.core_plans.proofs.WholeRuns.{OfRead, read_keeps}
-use Rattle.core_plans.specs.HeldReads.{AsksMaster, ChangesFollowers, ComesOfRead, DoesAsk, DoesKeep, DoesLook, DoesReadStage, EndsItsAsk, EndsReadDown}
+use Rattle.core_plans.specs.HeldReads.{AsksMaster, ChangesFollowers, ComesOfRead, DoesAsk, DoesKeep, DoesLook, DoesReadStage, EndsItsAsk, EndsRead}
 use Rattle.core_plans.specs.HeldReads.{MastersInVain, StandsSo, read_is_down, route_by, wanted_by}
 use Rattle.core_plans.specs.LedBy.{Rules}
 use Rattle.core_plans.specs.Needs.{asked_of_read}
@@ -27,7 +28,7 @@ use Rattle.headline_kept.specs.Touches.{KeepsButLast, KeepsFirst}
 use Rattle.node_name.specs.declared.NodeName.{NodeName}
 use Rattle.node_name.specs.declared.NodeName.TheVariants.{Store as StoreName_, Leader, Follower}
 use Rattle.read_plan.specs.Readings.{Reading}
-use Rattle.read_plan.specs.Standings.{after_ask, after_keep, after_look, after_master, read_refused, stage_of, standing_after}
+use Rattle.read_plan.specs.Standings.{after_ask, after_keep, after_look, after_master}
 use Rattle.read_plan.specs.declared.end.ReadEnd.{ReadEnd}
 use Rattle.read_plan.specs.declared.end.ReadEnd.TheVariants as end
 use Rattle.read_plan.specs.declared.standing.Given.{Given}
@@ -390,25 +391,15 @@ module _ (s : Settings) (near : NodeName → Type 0) (p : Reading) (start : Flee
   stage_so rules set (Keeping given) at stands does so = keeps_so given at stands (subst (λ t. DoesKeep t p given x q y) set does) so
   stage_so rules set (Ended end) at stands does so = absurd does
 
-  -- a node is down that the stage needs
-  refused_at : (critical : Bool) (bound : ℕ) (at : Standing) (reply : Reply) → standing_after critical bound at (read_refused (stage_of at) reply)
-      ≡ Ended (end.Refused reply)
-  refused_at critical bound Looking reply = refl
-  refused_at critical bound Asking reply = refl
-  refused_at critical bound Mastering reply = refl
-  refused_at critical bound (Keeping given) reply = refl
-  refused_at critical bound (Ended end) reply = refl
-
-  down_so : EndsReadDown p x q y → SoFar near read p.at start x.fleet → SoFar near read q.at start y.fleet
-  down_so down so =
-      subst (λ (r : Reading). SoFar near read r.at start y.fleet) (sym down.then)
-      (subst (λ a. SoFar near read a start y.fleet) (sym (refused_at p.critical p.bound p.at (read_is_down down.node)))
-      (ends_so p.at _ x so down.ends down.rest))
+  -- it ends in place of its stage
+  over_so : (reply : Reply) → EndsRead reply p x q y → SoFar near read p.at start x.fleet → SoFar near read q.at start y.fleet
+  over_so reply over so =
+      subst (λ a. SoFar near read a start y.fleet) (sym (over_refused reply p q x y over)) (ends_so p.at (end.Refused reply) x so over.ends over.rest)
 
   pub comes_so : (rules : Rules) → rules.settings ≡ s → StandsSo types (pens_of x.fleet.stores) (wanted_by p) p.at → ComesOfRead rules p x q y
       → SoFar near read p.at start x.fleet → SoFar near read q.at start y.fleet
   comes_so rules set stands (inl next) so = stage_so rules set p.at refl stands next.does so
-  comes_so rules set stands (inr down) so = down_so down so
+  comes_so rules set stands (inr down) so = over_so (read_is_down down.node) down.over so
 
 -- ---- who is asked
 
@@ -443,7 +434,7 @@ module _ (states : NodeStates) (p q : Reading) (old new : World) where
 
   read_asked : (rules : Rules) → ComesOfRead rules p old q new → IsAsked
   read_asked rules (inl does) = stage_asked rules p.at does.does
-  read_asked rules (inr ends) = asked_taken _ _ _ _ _ ends.then
+  read_asked rules (inr ends) = asked_taken _ _ _ _ _ ends.over.then
 
 -- ---- one stage of a held read, and all stages of a read at once
 
@@ -491,6 +482,14 @@ stage_leaves rules p q old new stands comes =
     leaves_others near (query_key p.query) q.at old.fleet new.fleet
     (comes_so rules.settings near p old.fleet old q new (λ name is. inl is) (λ name is. inr is) rules refl stands comes
     (so_self near (query_key p.query) p.at old.fleet))
+
+-- a read that ends in place of a stage
+pub over_leaves : (s : Settings) (reply : Reply) (p q : Reading) (old new : World) → EndsRead reply p old q new
+    → LeavesOthers (NearRead old.states p) (query_key p.query) old.fleet new.fleet
+over_leaves s reply p q old new over =
+    let near = NearRead old.states p in
+    leaves_others near (query_key p.query) q.at old.fleet new.fleet
+    (over_so s near p old.fleet old q new (λ name is. inl is) (λ name is. inr is) reply over (so_self near (query_key p.query) p.at old.fleet))
 
 -- a read of the key under way, and what has become of the nodes since its beginning
 pub record ReadSo (s : Settings) (near : NodeName → Type 0) (read : Key) (start : Fleet) (p : Reading) (now : World) : Type 0 where

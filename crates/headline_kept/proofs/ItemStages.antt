@@ -3,14 +3,16 @@ use Rattle.std.proofs.Common.{◌≡◌, ◌<◌, ◌∙◌, ◌++◌, [], ℕ, 
 use Rattle.std.proofs.lemmas.Bool.{ltb-true}
 use Rattle.std.specs.List.{AllByRecursion}
 use Rattle.std.specs.Option.{option_map}
-use Rattle.std.specs.Prelude.{IfSome, ⊤, if◌then◌else◌, nat_lt, option_to_list}
+use Rattle.std.specs.Prelude.{IfSome, ⊤, if◌then◌else◌, nat_lt, option_and_then, option_to_list}
 use Rattle.core_model.specs.Consistent.{IsConsistent}
 use Rattle.core_model.specs.Fleet.{Fleet}
 use Rattle.core_model.specs.Jobs.{ShardJob, far_shard}
 use Rattle.core_model.specs.Stores.{HaveMasterRegions}
+use Rattle.core_plans.proofs.HeldWriteStages.{its_own}
 use Rattle.core_plans.proofs.InTurn.{write_same}
 use Rattle.core_plans.proofs.WholeRuns.{OfWrite, write_keeps}
-use Rattle.core_plans.specs.HeldWrites.{ComesOfWrite, CommitsBy, DoesWriteStage, IsAnswerTo, MergesHeld, RefusesOnWay, RefusesWrite, job_by, job_sender}
+use Rattle.core_plans.specs.HeldWrites.{ComesOfWrite, CommitsBy, DoesWriteStage, IsAnswerTo, MergesHeld, RefusesOnWay, RefusesWrite, call_of_plan, job_by}
+use Rattle.core_plans.specs.HeldWrites.{job_sender}
 use Rattle.core_plans.specs.LedBy.{LedBy, Rules, led_by}
 use Rattle.core_plans.specs.Needs.{last_leader, leader_to_pass, leaders_of_write, tier_of_write}
 use Rattle.core_plans.specs.WholeCalls.{CarriesOut, PassesStage}
@@ -20,7 +22,8 @@ use Rattle.core_plans.specs.declared.leaders.Leaders.{Leaders}
 use Rattle.core_steps.specs.OtherEnds.{EndsOver, JobWay, LeavesJob, MergesAlong, MergesBy, SentJob, TakesMerge, job_way, master_leader, merging_leader}
 use Rattle.core_steps.specs.OtherEnds.{sent_job}
 use Rattle.core_steps.specs.World.{World}
-use Rattle.headline_kept.proofs.ItemEntries.{all_later, all_since, merged_is, own_answered}
+use Rattle.core_steps.specs.Writes.{AuthoredWrite, client_call}
+use Rattle.headline_kept.proofs.ItemEntries.{IsUnder, all_later, all_since, merged_is, own_answered}
 use Rattle.headline_kept.proofs.NamedLeaders.{all_of}
 use Rattle.headline_kept.proofs.ItemWrites.{AllTake, both_take, follower_takes, leader_relays, leader_takes, same_take}
 use Rattle.headline_kept.specs.Touches.{IsOfWrite}
@@ -33,12 +36,11 @@ use Rattle.replies.specs.declared.refusals.StoreRefused.TheVariants.{LinkFault}
 use Rattle.shard_tables.specs.declared.writes.Wrote.{Wrote}
 use Rattle.tao_base.specs.Writes.{write_shard}
 use Rattle.tao_base.specs.declared.entry.Entry.{Entry}
-use Rattle.tao_base.specs.declared.write.Write.{Write as AnyWrite}
 use Rattle.tao_keeper.proofs.Growing.{growing_laws}
 use Rattle.tao_keeper.specs.Growing.{LogsGrow}
 use Rattle.tao_keeper.specs.KeeperState.{KeeperState}
 use Rattle.topology.specs.Config.{Settings}
-use Rattle.write_plan.specs.Plans.{Writing, next_of}
+use Rattle.write_plan.specs.Plans.{Writing, answered_entry, next_of}
 use Rattle.write_plan.specs.declared.committed.Committed.{Committed}
 use Rattle.write_plan.specs.declared.results.LeftOpen.{LeftOpen}
 use Rattle.write_plan.specs.declared.results.LeftOpen.TheVariants as left
@@ -46,14 +48,14 @@ use Rattle.write_plan.specs.declared.stage.WriteStage.{WriteStage}
 use Rattle.write_plan.specs.declared.stage.WriteStage.TheVariants.{Apply, Commit, Done, End, Inverse, Relay}
 
 -- entries of the write were brought to nodes since the start, and stand in their logs now
-pub record Brings (tells : Bool) (s : Settings) (write : AnyWrite) (follower : NodeName) (start now : World) : Type 0 where
+pub record Brings (tells : Bool) (s : Settings) (call : AuthoredWrite) (follower : NodeName) (start now : World) : Type 0 where
   pub brought : List Entry
-  pub are : AllByRecursion (IsOfWrite tells s start.keepers.told now.keepers.told write) brought
+  pub are : AllByRecursion (IsOfWrite tells s start.keepers.told now.keepers.told call) brought
   pub take : AllTake follower brought start.fleet now.fleet
 
-pub brings_none : (tells : Bool) (s : Settings) (write : AnyWrite) (follower : NodeName) (start now : World) → now.fleet ≡ start.fleet
-    → Brings tells s write follower start now
-brings_none tells s write follower start now same = record { brought = []; are = tt; take = same_take follower [] start.fleet now.fleet same }
+pub brings_none : (tells : Bool) (s : Settings) (call : AuthoredWrite) (follower : NodeName) (start now : World) → now.fleet ≡ start.fleet
+    → Brings tells s call follower start now
+brings_none tells s call follower start now same = record { brought = []; are = tt; take = same_take follower [] start.fleet now.fleet same }
 
 -- ---- a commit that is refused
 
@@ -80,10 +82,10 @@ module _ (rules : Rules) (p : Writing) (old new : World) (regions : HaveMasterRe
   s = rules.settings
 
   abbrev Brought : Type 0
-  Brought = Brings rules.tells s p.write p.follower old new
+  Brought = Brings rules.tells s (call_of_plan p) p.follower old new
 
   rests : new.fleet ≡ old.fleet → Brought
-  rests same = brings_none rules.tells s p.write p.follower old new same
+  rests same = brings_none rules.tells s (call_of_plan p) p.follower old new same
 
   -- who is chosen is chosen for a shard that is configured
   within : (shard most : ℕ) (found : Option NodeName) (leader : NodeName) (test : Bool) → nat_lt shard most ≡ test
@@ -100,7 +102,8 @@ module _ (rules : Rules) (p : Writing) (old new : World) (regions : HaveMasterRe
   commit_brings (Some leaders) q chosen (inl commits) = record {
     brought = option_to_list commits.committed.wrote.entry;
     are = own_answered rules.tells s new.keepers.told new.fleet.stores regions after.stores old.keepers.told p commits.committed
-        (placed_by (master_leader s old.states (tier_of_write p) (write_shard p.write)) leaders refl chosen) commits.answer;
+        (placed_by (master_leader s old.states (tier_of_write p) (write_shard p.write)) leaders refl chosen)
+        (its_own (led_by rules leaders) p commits.committed.wrote old new commits.commits) commits.answer;
     take = leader_takes p.follower old.fleet new.fleet s (write_shard p.write) leaders.leader commits.committed.wrote.entry commits.commits.leader
         commits.commits.followers;
   }
@@ -112,7 +115,7 @@ module _ (rules : Rules) (p : Writing) (old new : World) (regions : HaveMasterRe
     takes_brings : (wrote : Wrote) → TakesMerge rules.tells s way wrote old new → Brought
     takes_brings wrote takes = record {
       brought = option_to_list wrote.entry;
-      are = merged_is rules.tells s p.write old new way.job of far wrote.entry takes.writes;
+      are = merged_is rules.tells s (call_of_plan p) old new way.job of far wrote.entry takes.writes;
       take = leader_takes p.follower old.fleet new.fleet s (far_shard way.job.job) way.merging wrote.entry takes.leader takes.followers;
     }
 
@@ -156,15 +159,16 @@ module _ (rules : Rules) (p : Writing) (old new : World) (regions : HaveMasterRe
   answer_is None c is answered = absurd (cc)
   answer_is (Some d) c is answered = (let same : d ≡ c = cc in subst (IsAnswerTo s old.fleet.stores p) same answered)
 
-  module _ (answered : IfSome p.committed (IsAnswerTo s old.fleet.stores p))
+  module _ (answered : IfSome p.committed (IsAnswerTo s old.fleet.stores p)) (own : IsUnder rules.tells p.origin (answered_entry p))
       (placed : (c : Committed) → p.committed ≡ Some c → write_shard p.write < s.shards) where
     -- on the way back
     own_brings : (c : Committed) → p.committed ≡ Some c → new.keepers ≡ old.keepers
-        → AllByRecursion (IsOfWrite rules.tells s old.keepers.told new.keepers.told p.write) (option_to_list c.wrote.entry)
+        → AllByRecursion (IsOfWrite rules.tells s old.keepers.told new.keepers.told (call_of_plan p)) (option_to_list c.wrote.entry)
     own_brings c is same =
-        subst (λ (k : KeeperState). AllByRecursion (IsOfWrite rules.tells s old.keepers.told k.told p.write) (option_to_list c.wrote.entry)) (sym same)
+        subst (λ (k : KeeperState). AllByRecursion (IsOfWrite rules.tells s old.keepers.told k.told (call_of_plan p)) (option_to_list c.wrote.entry))
+        (sym same)
         (own_answered rules.tells s old.keepers.told old.fleet.stores regions before.stores old.keepers.told p c (placed c is)
-        (answer_is p.committed c is answered))
+        (subst (λ (o : Option Committed). IsUnder rules.tells p.origin (option_and_then (λ d. d.wrote.entry) o)) is own) (answer_is p.committed c is answered))
 
     stage_brings : (at : WriteStage) (q : Writing) → DoesWriteStage rules at p old q new → Brought
     stage_brings Commit q does = commit_brings (leaders_of_write s old.states p) q refl does
@@ -193,54 +197,58 @@ module _ (rules : Rules) (p : Writing) (old new : World) (regions : HaveMasterRe
 -- ---- all stages
 
 -- the write under way, and what it has brought since the start
-record WriteSo (rules : Rules) (write : AnyWrite) (follower : NodeName) (start : World) (p : Writing) (now : World) : Type 0 where
-  write_is : p.write ≡ write
+record WriteSo (rules : Rules) (call : AuthoredWrite) (follower : NodeName) (start : World) (p : Writing) (now : World) : Type 0 where
+  call_is : call_of_plan p ≡ call
   follower_is : p.follower ≡ follower
   answered : IfSome p.committed (IsAnswerTo rules.settings now.fleet.stores p)
+  own : IsUnder rules.tells p.origin (answered_entry p)
   consistent : IsConsistent rules.tells rules.settings now.keepers.told now.fleet
   grows : LogsGrow rules.tells start.keepers.told now.keepers.told
-  brings : Brings rules.tells rules.settings write follower start now
+  brings : Brings rules.tells rules.settings call follower start now
 
-module _ (rules : Rules) (write : AnyWrite) (follower : NodeName) (start : World) (regions : HaveMasterRegions rules.settings) where
-  stage_goes_on : (p q : Writing) (old new : World) → WriteSo rules write follower start p old → PassesStage rules (Write p) old (Write q) new
-      → WriteSo rules write follower start q new
+module _ (rules : Rules) (call : AuthoredWrite) (follower : NodeName) (start : World) (regions : HaveMasterRegions rules.settings) where
+  stage_goes_on : (p q : Writing) (old new : World) → WriteSo rules call follower start p old → PassesStage rules (Write p) old (Write q) new
+      → WriteSo rules call follower start q new
   stage_goes_on p q old new was passes =
       let s = rules.settings in
       let stays = write_same p q old new rules passes.steps in
-      let same : q.write ≡ p.write = stays.write in
-      let here : write_shard p.write < s.shards = subst (λ w. write_shard w < s.shards) same passes.under_way.follower.here in
-      let more = comes_brings rules p old new regions was.consistent passes.on.consistent was.answered (λ c is. here) q passes.steps in
+      let same : call_of_plan q ≡ call_of_plan p = ap (λ o. client_call o q.write) stays.origin ∙ ap (client_call p.origin) stays.write in
+      let here : write_shard p.write < s.shards = subst (λ w. write_shard w < s.shards) stays.write passes.under_way.follower.here in
+      let more = comes_brings rules p old new regions was.consistent passes.on.consistent was.answered was.own (λ c is. here) q passes.steps in
       record {
-        write_is = same ∙ was.write_is;
+        call_is = same ∙ was.call_is;
         follower_is = stays.follower ∙ was.follower_is;
         answered = passes.under_way.committed;
+        own = passes.under_way.own;
         consistent = passes.on.consistent;
         grows = growing_laws.in_turn rules.tells start.keepers.told old.keepers.told new.keepers.told was.grows passes.on.grows.logs;
         brings = record {
           brought = was.brings.brought ++ more.brought;
-          are = all_of (IsOfWrite rules.tells s start.keepers.told new.keepers.told write) was.brings.brought more.brought
-              (all_later rules.tells s old.keepers.told new.keepers.told passes.on.grows.logs start.keepers.told write was.brings.brought was.brings.are)
-              (all_since rules.tells s start.keepers.told old.keepers.told was.grows new.keepers.told write more.brought
-              (subst (λ w. AllByRecursion (IsOfWrite rules.tells s old.keepers.told new.keepers.told w) more.brought) was.write_is more.are));
+          are = all_of (IsOfWrite rules.tells s start.keepers.told new.keepers.told call) was.brings.brought more.brought
+              (all_later rules.tells s old.keepers.told new.keepers.told passes.on.grows.logs start.keepers.told call was.brings.brought was.brings.are)
+              (all_since rules.tells s start.keepers.told old.keepers.told was.grows new.keepers.told call more.brought
+              (subst (λ w. AllByRecursion (IsOfWrite rules.tells s old.keepers.told new.keepers.told w) more.brought) was.call_is more.are));
           take = both_take follower was.brings.brought more.brought start.fleet old.fleet new.fleet was.brings.take
               (subst (λ f. AllTake f more.brought old.fleet new.fleet) was.follower_is more.take);
         };
       }
 
-  so_brings : (q : HeldPlan) (new : World) → OfWrite (WriteSo rules write follower start) q new → Brings rules.tells rules.settings write follower start new
+  so_brings : (q : HeldPlan) (new : World) → OfWrite (WriteSo rules call follower start) q new → Brings rules.tells rules.settings call follower start new
   so_brings (Write q) new so = so.brings
   so_brings (Read q) new so = absurd so
 
 pub whole_brings : (rules : Rules) (p : Writing) (q : HeldPlan) (old new : World) → HaveMasterRegions rules.settings
     → IsConsistent rules.tells rules.settings old.keepers.told old.fleet → p.committed ≡ None → CarriesOut rules (Write p) old q new
-    → Brings rules.tells rules.settings p.write p.follower old new
+    → Brings rules.tells rules.settings (call_of_plan p) p.follower old new
 whole_brings rules p q old new regions before none carries =
-    so_brings rules p.write p.follower old regions q new
-    (write_keeps rules (WriteSo rules p.write p.follower old) (stage_goes_on rules p.write p.follower old regions) carries.stages p q old new (record {
-      write_is = refl;
+    let call = call_of_plan p in
+    so_brings rules call p.follower old regions q new
+    (write_keeps rules (WriteSo rules call p.follower old) (stage_goes_on rules call p.follower old regions) carries.stages p q old new (record {
+      call_is = refl;
       follower_is = refl;
       answered = subst (λ o. IfSome o (IsAnswerTo rules.settings old.fleet.stores p)) (sym none) tt;
+      own = subst (λ (o : Option Committed). IsUnder rules.tells p.origin (option_and_then (λ c. c.wrote.entry) o)) (sym none) (λ told. tt);
       consistent = before;
       grows = growing_laws.stays rules.tells old.keepers.told old.keepers.told (λ told at. refl);
-      brings = brings_none rules.tells rules.settings p.write p.follower old old refl;
+      brings = brings_none rules.tells rules.settings call p.follower old old refl;
     }) carries.passes)

@@ -1,6 +1,8 @@
 pub mod Acknowledged
 pub mod Caches
 pub mod CallCauses
+pub mod Failing
+pub mod HeldJobs
 pub mod ItemEntries
 pub mod ItemLines
 pub mod ItemOps
@@ -8,11 +10,15 @@ pub mod ItemReads
 pub mod ItemStages
 pub mod ItemWrites
 pub mod Keeping
+pub mod LastStages
+pub mod LeftOpen
 pub mod LineCauses
+pub mod MachineRows
 pub mod NamedLeaders
 pub mod NodeLines
 pub mod NotAsked
 pub mod PlanCauses
+pub mod PlansStay
 pub mod Refusals
 pub mod ShardLines
 pub mod StageCauses

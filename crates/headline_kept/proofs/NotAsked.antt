@@ -33,8 +33,9 @@ use Rattle.tao_core.specs.Asked.{admitted, asked_of, asking_session, fresh_plan,
 use Rattle.tao_core.specs.Core.{Moment}
 use Rattle.topology.specs.Config.{Settings}
 use Rattle.headline_kept.specs.Causes.{HasCause, PlanCause, SessionCause}
-use Rattle.headline_kept.specs.Histories.{may_have_written, refused_position, stops_repair, stops_settle}
+use Rattle.headline_kept.specs.Histories.{may_have_written, stops_repair, stops_settle}
 use Rattle.headline_kept.specs.Standing.{Asks}
+use Rattle.plain_promise.specs.Promise.{refused_at}
 
 -- ---- tests
 
@@ -178,7 +179,7 @@ abbrev pub may_write : Checked → Refusal → Bool
 may_write (asked.Plan made) refusal = false
 may_write (asked.Store of_store.Settle) refusal = stops_settle refusal
 may_write (asked.Store (of_store.Repair shard)) refusal = stops_repair refusal
-may_write other refusal = nat_lt 0 (refused_position refusal)
+may_write other refusal = nat_lt 0 (refused_at refusal)
 
 abbrev SameFor : Request → Checked → Type 0
 SameFor made what = (refusal : Refusal) → may_have_written made refusal ≡ may_write what refusal

@@ -4,10 +4,9 @@ use Rattle.std.proofs.lemmas.Bool.{eq-eqb}
 use Rattle.std.specs.Prelude.{◌⊎◌, option_and_then}
 use Rattle.core_model.specs.Stores.{HaveMasterRegions}
 use Rattle.core_nodes.specs.Outside.{Outside}
-use Rattle.core_plans.specs.Held.{StepsReadAlone}
-use Rattle.core_plans.specs.HeldWrites.{ComesOfWrite}
-use Rattle.core_plans.specs.Held.{IsOver, next_stage, plan_at}
-use Rattle.core_plans.specs.HeldWrites.{call_of_plan, entry_position, way_given_up}
+use Rattle.core_plans.specs.Held.{IsOver, StepsReadAlone, next_stage, plan_at}
+use Rattle.core_plans.specs.HeldReads.{EndsRead, read_has_no_room}
+use Rattle.core_plans.specs.HeldWrites.{ComesOfWrite, call_of_plan, entry_position, way_given_up}
 use Rattle.core_plans.specs.LedBy.{rules_of}
 use Rattle.core_plans.specs.Needs.{leaders_of_write, read_down, write_down}
 use Rattle.core_plans.specs.declared.held.HeldPlan.{HeldPlan}
@@ -52,7 +51,7 @@ use Rattle.headline_kept.specs.Standing.{Asks, StandsAt, StandsTold, StandsWhen,
 use Rattle.headline_kept.proofs.CallCauses.{Refuses, chosen_up, first_is, its_stand, leaves_over, no_leader, read_at_once, read_cause, write_at_once}
 use Rattle.headline_kept.proofs.CallCauses.{write_cause, write_refusal}
 use Rattle.headline_kept.proofs.NotAsked.{asked_placed}
-use Rattle.headline_kept.proofs.StageCauses.{DownAt, ReadCause, read_stage_fails, refusal_so, write_stage_fails}
+use Rattle.headline_kept.proofs.StageCauses.{DownAt, ReadCause, ended_so, read_stage_fails, refusal_so, write_stage_fails}
 use Rattle.headline_kept.proofs.WholeCauses.{stands_when}
 
 -- ---- tables that stay
@@ -154,6 +153,17 @@ module _ (tells : Bool) (old : Moment) (request : Request) (new : Moment) (core 
             same = λ told at. steps.tables told at ∙ ap (λ (o : Outside). o.keepers.told at) outside;
           }
 
+  -- a read that gives up is refused for want of memory
+  read_gives_up : (p q : Reading) (refusal : Refusal) → EndsRead read_has_no_room p (world_of old) q (world_of new) → IsOver (of.Read q) (Refused refusal)
+      → RefusesHeld tells old request refusal new
+  read_gives_up p q refusal gives over =
+      let IsWant : Refusal → Type 0 = λ r. r ≡ Memory 0 in
+      let is = refusal_so IsWant q.at q refusal (ended_so IsWant p q (world_of old) (world_of new) (Memory 0) gives refl) over in
+      record {
+        cause = subst (λ r. HasCause tells old request r new) (sym is) tt;
+        same = λ told at. ap (λ (w : World). w.keepers.told at) gives.rest;
+      }
+
   abbrev Leaderless : Writing → ℕ → Type 0
   Leaderless p region = (leaders_of_write s old.core.states p ≡ None) × (region ≡ master_region old.core.states (write_shard p.write))
 
@@ -203,11 +213,11 @@ module _ (tells : Bool) (old : Moment) (request : Request) (new : Moment) (core 
       was : StandsWhen tells s old.keepers.told (Some (call_of_plan p)) (when_of (answered_entry p))
       was = stands_when tells s old.keepers.told old.core.fleet p regions core.is_consistent.consistent (core.plans.under_way number (of.Write p) at)
 
-      gives_up : (after : HeldPlan) (refusal : Refusal) → after ≡ of.Write (way_given_up p) → world_of new ≡ world_of old → IsOver after (Refused refusal)
+      gives_up : (q : Writing) (refusal : Refusal) → q ≡ way_given_up p → world_of new ≡ world_of old → IsOver (of.Write q) (Refused refusal)
           → RefusesHeld tells old request refusal new
-      gives_up after refusal given same over =
+      gives_up q refusal given same over =
           let replied : Some (Refused (Memory (entry_position (answered_entry p)))) ≡ Some (Refused refusal) =
-          subst (λ x. IsOver x (Refused refusal)) given over in
+          subst (λ x. IsOver (of.Write x) (Refused refusal)) given over in
           let is : Memory (entry_position (answered_entry p)) ≡ refusal = cc in
           let stays : WhereTold tells (Stays old.keepers.told new.keepers.told) = λ told at. ap (λ (w : World). w.keepers.told at) same in
           record {
@@ -232,8 +242,10 @@ module _ (tells : Bool) (old : Moment) (request : Request) (new : Moment) (core 
         (λ count h. h) q refusal steps over
     advances (of.Read p) (of.Write q) refusal at (inl steps) over = absurd steps
     advances (of.Write p) (of.Read q) refusal at (inl steps) over = absurd steps
-    advances (of.Write p) after refusal at (inr without) over = gives_up p at after refusal without.then without.same over
-    advances (of.Read p) after refusal at (inr without) over = (let last = without.last in absurd (cc))
+    advances (of.Write p) (of.Write q) refusal at (inr without) over = gives_up p at q refusal without.gives.0 without.gives.1 over
+    advances (of.Read p) (of.Read q) refusal at (inr without) over = read_gives_up p q refusal without.gives over
+    advances (of.Read p) (of.Write q) refusal at (inr without) over = absurd without.gives
+    advances (of.Write p) (of.Read q) refusal at (inr without) over = absurd without.gives
 
     -- a line that advances a plan
     pub advance_line : (refusal : Refusal) → StepsAt tells word.Advance number old (Refused refusal) new → RefusesHeld tells old request refusal new
@@ -264,7 +276,8 @@ module _ (tells : Bool) (old : Moment) (request : Request) (new : Moment) (core 
         (λ count h. h) q refusal steps over
     begins session follower (call.Read read) (of.Write q) refusal same found up (inl steps) over = absurd steps
     begins session follower (call.Write write) (of.Read q) refusal same found up (inl steps) over = absurd steps
-    begins session follower (call.Read read) after refusal same found up (inr without) over = (let last = without.last in absurd (cc))
+    begins session follower (call.Read read) (of.Read q) refusal same found up (inr without) over = read_gives_up _ q refusal without.gives over
+    begins session follower (call.Read read) (of.Write q) refusal same found up (inr without) over = absurd without.gives
     begins session follower (call.Write write) after refusal same found up (inr without) over = (let last = without.last in absurd (cc))
 
     hold_goes : (refusal : Refusal) → HoldGoes tells number made old (Refused refusal) new → RefusesHeld tells old request refusal new

@@ -7,8 +7,9 @@ use Rattle.core_model.specs.Jobs.{ShardJob}
 use Rattle.core_model.specs.Reads.{Wanted}
 use Rattle.core_nodes.specs.Outside.{Outside}
 use Rattle.core_plans.proofs.HeldWriteStages.{before_commit}
-use Rattle.core_plans.proofs.StageLemmas.{ended_by, ended_read, merge_refuses_none}
-use Rattle.core_plans.specs.HeldReads.{ComesOfRead, DoesKeep, DoesLook, DoesReadStage, read_is_down, wanted_by}
+use Rattle.core_plans.proofs.ReadRefusals.{over_refused}
+use Rattle.core_plans.proofs.StageLemmas.{ended_by, merge_refuses_none}
+use Rattle.core_plans.specs.HeldReads.{ComesOfRead, DoesKeep, DoesLook, DoesReadStage, EndsRead, wanted_by}
 use Rattle.core_plans.specs.HeldWrites.{ComesOfWrite, CommitsBy, DoesWriteStage, RefusesOnWay, RefusesWrite, call_of_plan, come_past, job_by, job_sender}
 use Rattle.core_plans.specs.HeldWrites.{sent_by, way_by, write_is_down}
 use Rattle.core_plans.specs.LedBy.{LedBy, Rules, led_by}
@@ -25,7 +26,7 @@ use Rattle.graph_model.specs.Told.{WhereTold}
 use Rattle.node_name.specs.declared.NodeName.{NodeName}
 use Rattle.read_plan.specs.Ends.{EndsAt}
 use Rattle.read_plan.specs.Readings.{Reading}
-use Rattle.read_plan.specs.Standings.{after_ask, after_keep, after_look, after_master, stage_of}
+use Rattle.read_plan.specs.Standings.{after_ask, after_keep, after_look, after_master}
 use Rattle.read_plan.specs.declared.end.ReadEnd.TheVariants as ended
 use Rattle.read_plan.specs.declared.standing.Given.{Given}
 use Rattle.read_plan.specs.declared.standing.Given.TheVariants.{Fill, HandedOut, Past}
@@ -191,6 +192,11 @@ module _ (Down : NodeName → When → Type 0) (old : World) where
     read_fails rules (Keeping given) same is does = keep_fails given is (subst (λ x. DoesKeep x p given old q new) same does)
     read_fails rules (Ended end) same is does = absurd does
 
+-- a read that ended with this refusal in place of its stage
+pub ended_so : (P : Refusal → Type 0) (p q : Reading) (old new : World) (refusal : Refusal) → EndsRead (Refused refusal) p old q new → P refusal
+    → OnlyBy P q.at
+ended_so P p q old new refusal ends so = subst (OnlyBy P) (sym (over_refused (Refused refusal) p q old new ends)) (refusal, refl, so)
+
 -- a node is down that the read's stage needs, before anything was written
 abbrev pub DownAt : NodeStates → Reading → NodeName → When → Type 0
 DownAt states p node when = (read_down states p ≡ Some node) × (when ≡ Before)
@@ -201,8 +207,7 @@ pub read_stage_fails : (rules : Rules) (p q : Reading) (old new : World) → Com
 read_stage_fails rules p q old new (inl next) =
     read_fails (DownAt old.states p) old rules.settings p q new rules p.at refl refl next.does
 read_stage_fails rules p q old new (inr ends) =
-    let P = ReadCause (DownAt old.states p) (outside_of old) (outside_of new) in
-    at_then P q _ ends.then (subst (OnlyBy P) (sym (ended_read (stage_of p.at) (read_is_down ends.node) p 0 false)) (_, refl, (ends.down, refl)))
+    ended_so (ReadCause (DownAt old.states p) (outside_of old) (outside_of new)) p q old new (Node (NodeDown ends.node Before)) ends.over (ends.down, refl)
 
 -- ---- how a write ends
 

@@ -45,7 +45,6 @@ use Rattle.tao_keeper.specs.Table.{Stays, Tables}
 use Rattle.tao_keeper.specs.declared.jobs.Job.{Job}
 use Rattle.tao_schema.specs.Schema.{types_of}
 use Rattle.topology.specs.Config.{Settings}
-use Rattle.write_model.proofs.NextNumbers.{forward_origin}
 use Rattle.write_model.specs.Writes.{FitsWrite}
 use Rattle.write_plan.specs.Plans.{Writing, after_stage, answered_entry, answered_job, next_of, when_of}
 use Rattle.write_plan.specs.declared.committed.Committed.{Committed}
@@ -55,13 +54,14 @@ use Rattle.write_plan.specs.declared.results.WriteResult.TheVariants as came
 use Rattle.write_plan.specs.declared.stage.WriteStage.{WriteStage}
 use Rattle.write_plan.specs.declared.stage.WriteStage.TheVariants.{Apply, Commit, Done, End, Inverse, Relay}
 use Rattle.headline_kept.specs.Standing.{StandsWhen}
+use Rattle.headline_kept.proofs.ItemEntries.{IsUnder}
 use Rattle.headline_kept.proofs.StageCauses.{DownAt, FailsBy, OnlyBy, ReadCause, RefusedBy, StageRefuses, WriteCause, WriteTerms}
 use Rattle.headline_kept.proofs.StageCauses.{read_stage_fails, stage_terms, was_unrefused}
 use Rattle.headline_kept.proofs.StageCauses.{write_stage_fails}
 
 -- ---- counts
 
-later_trans : (a b c : KeeperState) → IsLater a b → IsLater b c → IsLater a c
+pub later_trans : (a b c : KeeperState) → IsLater a b → IsLater b c → IsLater a c
 later_trans a b c p q =
     let calls = p.calls in
     let more_calls = q.calls in
@@ -69,7 +69,7 @@ later_trans a b c p q =
     let more_faults = q.faults in
     record { calls = omega (arith, calls, more_calls); faults = omega (arith, faults, more_faults) }
 
-link_trans : (a b c : _) → IsLaterLink a b → IsLaterLink b c → IsLaterLink a c
+pub link_trans : (a b c : _) → IsLaterLink a b → IsLaterLink b c → IsLaterLink a c
 link_trans a b c p q =
     let carries = p.carries in
     let more_carries = q.carries in
@@ -78,10 +78,6 @@ link_trans a b c p q =
     record { carries = omega (arith, carries, more_carries); faults = omega (arith, faults, more_faults); cuts = q.cuts ∙ p.cuts }
 
 -- ---- what stands
-
--- the entry stands in the log of the write's shard
-abbrev pub StandsThere : Bool → Settings → Tables → Writing → Entry → Type 0
-StandsThere tells s tables p e = WhereTold tells (entry_at (master_log s tables (write_shard p.write)) e.position ≡ Some e)
 
 -- what a commit answered stands in the log, at the position of its entry
 module _ (tells : Bool) (s : Settings) (tables : Tables) (f : Fleet) (p : Writing) (regions : HaveMasterRegions s) (are : IsConsistent tells s tables f)
@@ -102,30 +98,21 @@ module _ (tells : Bool) (s : Settings) (tables : Tables) (f : Fleet) (p : Writin
         fits = subst (λ o. IfSome o (λ x. FitsWrite x p.write)) entry answer.apply.fits;
       }
 
-  by_entry : (c : Committed) (entry : Option Entry) → c.wrote.entry ≡ entry → IsAnswerTo s f.stores p c
+  by_entry : (c : Committed) (entry : Option Entry) → c.wrote.entry ≡ entry → IsAnswerTo s f.stores p c → IsUnder tells p.origin entry
       → StandsWhen tells s tables (Some (call_of_plan p)) (when_of entry)
-  by_entry c None entry answer = tt
-  by_entry c (Some e) entry answer = λ told.
+  by_entry c None entry answer own = tt
+  by_entry c (Some e) entry answer own = λ told.
       let so = entry_at_end c e entry answer told in
-      record { entry = e; stands = so.stands; fits = so.fits }
+      record { entry = e; stands = so.stands; fits = so.fits; own = own told }
 
   by_answer : (committed : Option Committed) → IfSome committed (IsAnswerTo s f.stores p)
+      → IsUnder tells p.origin (option_and_then (λ c. c.wrote.entry) committed)
       → StandsWhen tells s tables (Some (call_of_plan p)) (when_of (option_and_then (λ c. c.wrote.entry) committed))
-  by_answer None answer = tt
-  by_answer (Some c) answer = by_entry c c.wrote.entry refl answer
-
-  there : (c : Committed) (entry : Option Entry) → c.wrote.entry ≡ entry → IsAnswerTo s f.stores p c → IfSome entry (StandsThere tells s tables p)
-  there c None entry answer = tt
-  there c (Some e) entry answer = λ told. (entry_at_end c e entry answer told).stands
-
-  -- so does its very entry
-  pub entry_there : (committed : Option Committed) → IfSome committed (IsAnswerTo s f.stores p)
-      → IfSome (option_and_then (λ c. c.wrote.entry) committed) (StandsThere tells s tables p)
-  entry_there None answer = tt
-  entry_there (Some c) answer = there c c.wrote.entry refl answer
+  by_answer None answer own = tt
+  by_answer (Some c) answer own = by_entry c c.wrote.entry refl answer own
 
   pub stands_when : StandsWhen tells s tables (Some (call_of_plan p)) (when_of (answered_entry p))
-  stands_when = by_answer p.committed is.committed
+  stands_when = by_answer p.committed is.committed is.own
 
 -- ---- reads
 
@@ -214,12 +201,12 @@ module _ (rules : Rules) (p q : Writing) (old new : World) where
   commit_moves None none fails finds =
       is_refused _ (ap (λ (r : Writing). r.committed) finds.then) (ap (λ (r : Writing). r.refused) finds.then) fails
 
-  inverse_keeps : (result : Result Wrote LeftOpen) (hops : ℕ) → q ≡ after_stage p (came.Inverse result) hops → q.committed ≡ p.committed
+  pub inverse_keeps : (result : Result Wrote LeftOpen) (hops : ℕ) → q ≡ after_stage p (came.Inverse result) hops → q.committed ≡ p.committed
   inverse_keeps (Ok wrote) hops is = ap (λ (r : Writing). r.committed) is
   inverse_keeps (Err (left.Scheduled why wrote)) hops is = ap (λ (r : Writing). r.committed) is
   inverse_keeps (Err (left.Refused reply)) hops is = ap (λ (r : Writing). r.committed) is
 
-  end_keeps : (result : Result ⊤ LeftOpen) (hops : ℕ) → q ≡ after_stage p (came.End result) hops → q.committed ≡ p.committed
+  pub end_keeps : (result : Result ⊤ LeftOpen) (hops : ℕ) → q ≡ after_stage p (came.End result) hops → q.committed ≡ p.committed
   end_keeps (Ok done) hops is = ap (λ (r : Writing). r.committed) is
   end_keeps (Err (left.Scheduled why wrote)) hops is = ap (λ (r : Writing). r.committed) is
   end_keeps (Err (left.Refused reply)) hops is = ap (λ (r : Writing). r.committed) is
@@ -278,8 +265,6 @@ pub record WriteRuns (rules : Rules) (start : World) (p : Writing) (q : Writing)
   pub jobless : answered_entry q ≡ None → WhereTold rules.tells (answered_job q ≡ None)
   pub tables : answered_entry q ≡ None → KeepsTables rules.tells start.keepers now.keepers
   pub stands : StandsWhen rules.tells rules.settings now.keepers.told (Some (call_of_plan p)) (when_of (answered_entry q))
-  pub own : IfSome (answered_entry q) (λ e. WhereTold rules.tells (e.origin ≡ p.origin))
-  pub there : IfSome (answered_entry q) (StandsThere rules.tells rules.settings now.keepers.told p)
   pub fails : RefusedBy (WriteCause (whole_terms rules p start (answered_entry q)) (outside_of start) (outside_of now)) q.refused
 
 -- what a commit answered is of no other entry than its own
@@ -351,12 +336,6 @@ module _ (rules : Rules) (start : World) (p0 : Writing) (regions : HaveMasterReg
     stands_now = subst (λ c. StandsWhen rules.tells rules.settings new.keepers.told (Some c) (when_of (answered_entry q))) (call_is ∙ so.call)
         (stands_when rules.tells rules.settings new.keepers.told new.fleet q regions stage.on.consistent stage.under_way)
 
-    -- and where
-    there_now : IfSome (answered_entry q) (StandsThere rules.tells rules.settings new.keepers.told p0)
-    there_now = subst (λ w. IfSome (answered_entry q) (λ e. WhereTold rules.tells
-        (entry_at (master_log rules.settings new.keepers.told (write_shard w)) e.position ≡ Some e))) (ap (λ c. c.write) (call_is ∙ so.call))
-        (entry_there rules.tells rules.settings new.keepers.told new.fleet q regions stage.on.consistent stage.under_way q.committed stage.under_way.committed)
-
     module _ (rests : Rests rules.tells p old q new) where
       entry_is : answered_entry q ≡ answered_entry p
       entry_is = committed_entry q p.committed rests.committed
@@ -375,8 +354,6 @@ module _ (rules : Rules) (start : World) (p0 : Writing) (regions : HaveMasterReg
             let was = sym entry_is ∙ none in
             rests.tables (so.jobless was told) told at ∙ so.tables was told at;
         stands = stands_now;
-        own = subst (λ o. IfSome o (λ e. WhereTold rules.tells (e.origin ≡ p0.origin))) (sym entry_is) so.own;
-        there = there_now;
         fails = subst (λ e. RefusedBy (Why e) q.refused) (sym entry_is)
             (refused_map (StageRefuses (stage_terms rules p old) old new) (Why (answered_entry p)) q.refused (wide never)
             (write_stage_fails rules p q old new does));
@@ -407,20 +384,6 @@ module _ (rules : Rules) (start : World) (p0 : Writing) (regions : HaveMasterReg
           (job_with (types_of rules.settings.schema) (new_entry c.wrote.retry e))) is (did.commits.commits.commits.gains told))
       no_change (Some e) is none told = absurd (cc)
 
-      -- an entry that the log has, or gains, for the write is under its origin
-      origin_of : (retry : Bool) (e : Entry) → AnswersAs (asked_of_log rules.settings old.keepers (call_of_plan p)) retry (Some e) → e.origin ≡ p.origin
-      origin_of true e answers = answers.stands.origin_is
-      origin_of false e answers =
-          let asked = asked_of_log rules.settings old.keepers (call_of_plan p) in
-          forward_origin asked.types asked.epoch asked.log p.origin p.write e answers.next.forward
-
-      its_own : (entry : Option Entry) → c.wrote.entry ≡ entry → IfSome entry (λ e. WhereTold rules.tells (e.origin ≡ p0.origin))
-      its_own None is = tt
-      its_own (Some e) is = λ told.
-          origin_of c.wrote.retry e
-          (subst (λ o. AnswersAs (asked_of_log rules.settings old.keepers (call_of_plan p)) c.wrote.retry o) is (did.commits.commits.commits.answers told))
-          ∙ ap (λ a. a.origin) so.call
-
       commits_on : WriteRuns rules start p0 q new
       commits_on = record {
         keepers = later_trans start.keepers old.keepers new.keepers so.keepers stage.on.later;
@@ -434,9 +397,6 @@ module _ (rules : Rules) (start : World) (p0 : Writing) (regions : HaveMasterReg
             no_change c.wrote.entry refl (sym (committed_entry q (Some c) answered) ∙ none) told at
             ∙ so.tables (before_entry p did.none) told at;
         stands = stands_now;
-        own = subst (λ o. IfSome o (λ e. WhereTold rules.tells (e.origin ≡ p0.origin))) (sym (committed_entry q (Some c) answered))
-            (its_own c.wrote.entry refl);
-        there = there_now;
         fails = subst (RefusedBy (Why (answered_entry q))) (sym unrefused) tt;
       }
 
@@ -460,8 +420,6 @@ module _ (rules : Rules) (start : World) (p0 : Writing) (regions : HaveMasterReg
         jobless = λ nothing told. ap (λ (c : Option Committed). option_and_then (λ c. c.wrote.job) c) none;
         tables = λ nothing told at. refl;
         stands = subst (StandsWhen rules.tells rules.settings start.keepers.told (Some (call_of_plan p0))) (sym (ap when_of (before_entry p0 none))) tt;
-        own = subst (λ o. IfSome o (λ e. WhereTold rules.tells (e.origin ≡ p0.origin))) (sym (before_entry p0 none)) tt;
-        there = subst (λ o. IfSome o (StandsThere rules.tells rules.settings start.keepers.told p0)) (sym (before_entry p0 none)) tt;
         fails = subst (RefusedBy _) (sym never) tt;
       })
       out.passes

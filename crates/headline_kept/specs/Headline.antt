@@ -1,7 +1,6 @@
 -- What each line keeps, whatever it asks.
 use Rattle.std.specs.Prelude.{Bool}
-use Rattle.headline_kept.specs.Causes.{RefusesWithCause}
-use Rattle.headline_kept.specs.Histories.{LeavesHistories}
+use Rattle.headline_kept.specs.Faults.{FailsRightly}
 use Rattle.headline_kept.specs.Standing.{KeepsAcknowledged}
 use Rattle.headline_kept.specs.Touches.{KeepsItems}
 use Rattle.replies.specs.declared.reply.Reply.{Reply}
@@ -15,12 +14,10 @@ pub record IsAnswered (tells : Bool) (old : Moment) (request : Request) (reply :
   pub after : StaysUsable tells old.keepers new.keepers old.core new.core
   pub answers : AnswersRequest tells old request reply new
 
--- what a line keeps: items stay as they were, unless it touches them; a refusal leaves the histories, but where it says otherwise, and has its cause; and
--- what was acknowledged stands
+-- what a line keeps: items stay as they were, unless it touches them; where something fails, it fails rightly; and what was acknowledged stands
 pub record KeepsHeadline (tells : Bool) (old : Moment) (request : Request) (reply : Reply) (new : Moment) : Type 0 where
   pub items : KeepsItems tells old request new
-  pub refused : LeavesHistories tells old request reply new
-  pub cause : RefusesWithCause tells old request reply new
+  pub fails : FailsRightly tells old request reply new
   pub stands : KeepsAcknowledged tells old request reply new
 
 -- each line keeps items
@@ -32,3 +29,8 @@ pub record LinesKeepItems : Type 0 where
 pub record LinesKeepHeadline : Type 0 where
   pub kept : (tells : Bool) (old new : Moment) (request : Request) (reply : Reply) → IsAnswered tells old request reply new
       → KeepsHeadline tells old request reply new
+
+-- each line fails rightly, where something fails
+pub record LinesFailRightly : Type 0 where
+  pub fails : (tells : Bool) (old new : Moment) (request : Request) (reply : Reply) → IsAnswered tells old request reply new
+      → FailsRightly tells old request reply new

@@ -1,10 +1,10 @@
 -- Which refusals leave the histories as they were.
-use Rattle.std.specs.Prelude.{ℕ, ◌≡◌, Bool, true, false, nat_lt}
-use Rattle.replies.specs.declared.refusals.NodeRefused.TheVariants.{NoServer, NodeDown}
+use Rattle.std.specs.Prelude.{◌≡◌, Bool, true, false, nat_lt}
+use Rattle.plain_promise.specs.Promise.{refused_at}
+use Rattle.replies.specs.declared.refusals.NodeRefused.TheVariants.{NoServer}
 use Rattle.replies.specs.declared.refusals.Refusal.{Refusal}
 use Rattle.replies.specs.declared.refusals.Refusal.TheVariants.{Memory, Node, Store}
 use Rattle.replies.specs.declared.refusals.StoreRefused.TheVariants.{KeeperFault, LinkFault, Unsettled}
-use Rattle.replies.specs.declared.refusals.When.TheVariants.{After}
 use Rattle.replies.specs.declared.reply.Reply.{Reply}
 use Rattle.replies.specs.declared.reply.Reply.TheVariants.{Refused}
 use Rattle.requests.specs.declared.request.Request.{Request}
@@ -12,13 +12,6 @@ use Rattle.requests.specs.declared.request.Request.TheVariants as request
 use Rattle.requests.specs.declared.stores.StoreRequest.TheVariants as store
 use Rattle.tao_core.specs.Core.{Moment}
 use Rattle.tao_keeper.specs.KeeperState.{KeepsTables}
-
--- the position that a refusal tells, at which the entry of a write stands; or 0
-abbrev pub refused_position : Refusal → ℕ
-refused_position (Memory position) = position
-refused_position (Store (LinkFault count (After position))) = position
-refused_position (Node (NodeDown node (After position))) = position
-refused_position other = 0
 
 -- a settle stopped on its way
 abbrev pub stops_settle : Refusal → Bool
@@ -40,7 +33,7 @@ abbrev pub may_have_written : Request → Refusal → Bool
 may_have_written (request.Plan made) refusal = false
 may_have_written (request.Store store.Settle) refusal = stops_settle refusal
 may_have_written (request.Store (store.Repair shard)) refusal = stops_repair refusal
-may_have_written other refusal = nat_lt 0 (refused_position refusal)
+may_have_written other refusal = nat_lt 0 (refused_at refusal)
 
 -- a refusal leaves each table as it was, but for these
 pub record LeavesHistories (tells : Bool) (old : Moment) (request : Request) (reply : Reply) (new : Moment) : Type 0 where

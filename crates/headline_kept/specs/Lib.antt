@@ -1,6 +1,9 @@
 pub mod Causes
+pub mod Faults
 pub mod Headline
 pub mod Histories
+pub mod Machine
 pub mod Refusing
+pub mod Scheduled
 pub mod Standing
 pub mod Touches

@@ -1,5 +1,5 @@
 -- What stands of the write that a line carries out.
-use Rattle.std.specs.Prelude.{ℕ, ◌≡◌, ◌<◌, ⊤, Bool, List, Option, Some, None, Ok, if◌then◌else◌, option_and_then}
+use Rattle.std.specs.Prelude.{ℕ, ◌≡◌, ◌<◌, ⊤, Bool, Option, Some, None, Ok, if◌then◌else◌, option_and_then}
 use Rattle.core_model.specs.Stores.{master_log}
 use Rattle.core_plans.specs.Held.{Plans, plan_at}
 use Rattle.core_plans.specs.HeldWrites.{call_of_plan}
@@ -8,6 +8,7 @@ use Rattle.core_plans.specs.declared.held.HeldPlan.TheVariants as of
 use Rattle.core_steps.specs.Writes.{AuthoredWrite, client_call}
 use Rattle.graph_model.specs.Log.{entry_at}
 use Rattle.graph_model.specs.Told.{WhereTold}
+use Rattle.plain_promise.specs.Promise.{HasEachOnce}
 use Rattle.replies.specs.declared.calls.CallReply.TheVariants as called
 use Rattle.replies.specs.declared.calls.Written.{Written}
 use Rattle.replies.specs.declared.plans.PlanReply.TheVariants.{Ended}
@@ -55,13 +56,14 @@ write_of plans other = None
 
 -- ---- what stands
 
--- an entry that fits the write stands in its shard's log at the position
+-- an entry that fits the write, under its very origin, stands in its shard's log at the position
 pub record StandsAt (s : Settings) (tables : Tables) (write : AuthoredWrite) (position : ℕ) : Type 0 where
   pub entry : Entry
   pub stands : entry_at (master_log s tables (write_shard write.write)) position ≡ Some entry
   pub fits : FitsWrite entry write.write
+  pub own : entry.origin ≡ write.origin
 
--- there is such a write, and where the tables are told its entry stands there
+-- there is such a write, and where the tables are told its own entry stands there
 abbrev pub StandsTold : Bool → Settings → Tables → Option AuthoredWrite → ℕ → Type 0
 StandsTold tells s tables None position = ⊥
 StandsTold tells s tables (Some write) position = WhereTold tells (StandsAt s tables write position)
@@ -83,21 +85,11 @@ acknowledged (Called (called.Write reply)) = written_at reply.written
 acknowledged (Plan (Ended number (called.Write reply))) = written_at reply.written
 acknowledged other = None
 
--- of two entries of a shard's log none has the origin of the other
-pub record HasEachOnce (log : List Entry) : Type 0 where
-  pub once : (first second : ℕ) (d e : Entry) → entry_at log first ≡ Some d → entry_at log second ≡ Some e → d.origin ≡ e.origin → first ≡ second
-
--- each entry at the position is under the origin of the write
-abbrev pub IsOwn : Settings → Tables → AuthoredWrite → ℕ → Type 0
-IsOwn s tables write position = (e : Entry) → entry_at (master_log s tables (write_shard write.write)) position ≡ Some e → e.origin ≡ write.origin
-
--- where the line carries out a write, and its Ok reply tells a position, the write's entry stands there; where that isn't held, under its session and number.
--- What stood before the line stands after it, and no log has two entries of one origin
+-- where the line carries out a write, held or not, and its Ok reply tells a position, the write's own entry stands there. What stood before the line stands
+-- after it, and no log has two entries of one origin
 pub record KeepsAcknowledged (tells : Bool) (old : Moment) (request : Request) (reply : Reply) (new : Moment) : Type 0 where
   pub written : (what : Checked) (write : AuthoredWrite) (position : ℕ) → Asks old request what → write_of old.core.plans what ≡ Some write
       → acknowledged reply ≡ Some position → WhereTold tells (StandsAt old.core.settings new.keepers.told write position)
-  pub own : (made : CheckedCall) (write : AuthoredWrite) (position : ℕ) → Asks old request (asked.Call made) → write_of_call made ≡ Some write
-      → acknowledged reply ≡ Some position → WhereTold tells (IsOwn old.core.settings new.keepers.told write position)
   pub stays : (write : AuthoredWrite) (position : ℕ) → WhereTold tells (StandsAt old.core.settings old.keepers.told write position
       → StandsAt old.core.settings new.keepers.told write position)
   pub once : (shard : ℕ) → shard < old.core.settings.shards → WhereTold tells (HasEachOnce (master_log old.core.settings new.keepers.told shard))

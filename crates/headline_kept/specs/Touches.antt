@@ -14,6 +14,7 @@ use Rattle.core_plans.specs.Held.{plan_at}
 use Rattle.core_plans.specs.Needs.{asked_of_read}
 use Rattle.core_plans.specs.declared.held.HeldPlan.{HeldPlan}
 use Rattle.core_plans.specs.declared.held.HeldPlan.TheVariants as of
+use Rattle.core_steps.specs.Writes.{AuthoredWrite}
 use Rattle.follower_cache.specs.Seen.{FollowerState}
 use Rattle.follower_cache.specs.declared.queue.Refill.{Refill}
 use Rattle.graph_model.specs.Log.{entry_at}
@@ -37,7 +38,6 @@ use Rattle.tao_base.specs.Writes.{write_shard}
 use Rattle.tao_base.specs.declared.entry.Entry.{Entry}
 use Rattle.tao_base.specs.declared.entry.Origin.TheVariants.{Merge}
 use Rattle.tao_base.specs.declared.id.Key.{Key}
-use Rattle.tao_base.specs.declared.write.Write.{Write}
 use Rattle.tao_core.specs.Asked.{asked_of}
 use Rattle.tao_core.specs.Core.{Moment}
 use Rattle.tao_core.specs.Deliveries.{refill_plan}
@@ -47,6 +47,7 @@ use Rattle.topology.specs.Choices.{preferred_leader}
 use Rattle.topology.specs.Config.{Settings}
 use Rattle.topology.specs.States.{NodeStates}
 use Rattle.write_model.specs.Writes.{FitsWrite}
+use Rattle.headline_kept.specs.Standing.{write_of}
 
 -- ---- entries that a line brings to nodes
 
@@ -54,42 +55,34 @@ use Rattle.write_model.specs.Writes.{FitsWrite}
 abbrev pub StandsOn : Bool → Settings → Tables → ℕ → Entry → Type 0
 StandsOn tells s tables shard e = WhereTold tells (entry_at (master_log s tables shard) e.position ≡ Some e)
 
--- the entry is one that the write made on its shard
-pub record IsOwnEntry (tells : Bool) (s : Settings) (tables : Tables) (write : Write) (e : Entry) : Type 0 where
-  pub fits : FitsWrite e write
-  pub stands : StandsOn tells s tables (write_shard write) e
+-- the entry is the one that the write made on its shard, under its very origin
+pub record IsOwnEntry (tells : Bool) (s : Settings) (tables : Tables) (write : AuthoredWrite) (e : Entry) : Type 0 where
+  pub fits : FitsWrite e write.write
+  pub own : WhereTold tells (e.origin ≡ write.origin)
+  pub stands : StandsOn tells s tables (write_shard write.write) e
 
 -- since those tables the log of a shard gained the entry, which merges what an entry of the write's shard owed there
-pub record IsMergedEntry (tells : Bool) (s : Settings) (before tables : Tables) (write : Write) (e : Entry) : Type 0 where
+pub record IsMergedEntry (tells : Bool) (s : Settings) (before tables : Tables) (write : AuthoredWrite) (e : Entry) : Type 0 where
   pub shard : ℕ
   pub position : ℕ
   pub gained : WhereTold tells (length (master_log s before shard) < e.position)
   pub stands : StandsOn tells s tables shard e
-  pub origin_is : WhereTold tells (e.origin ≡ Merge (write_shard write) position)
+  pub origin_is : WhereTold tells (e.origin ≡ Merge (write_shard write.write) position)
 
 -- a write brings the entry to nodes: its own, or the one that merges its job at the other end
-abbrev pub IsOfWrite : Bool → Settings → Tables → Tables → Write → Entry → Type 0
+abbrev pub IsOfWrite : Bool → Settings → Tables → Tables → AuthoredWrite → Entry → Type 0
 IsOfWrite tells s before tables write e = IsOwnEntry tells s tables write e ⊎ IsMergedEntry tells s before tables write e
 
--- a call brings the entry to nodes; a read brings none
-abbrev pub IsOfCall : Bool → Moment → Moment → CheckedCall → Entry → Type 0
-IsOfCall tells old new (call.Write call) e = IsOfWrite tells old.core.settings old.keepers.told new.keepers.told call.write e
-IsOfCall tells old new (call.Read call) e = ⊥
+-- the write that a line carries out, where it does one, brings the entry to nodes
+abbrev pub IsOfLine : Bool → Moment → Moment → Option AuthoredWrite → Entry → Type 0
+IsOfLine tells old new (Some write) e = IsOfWrite tells old.core.settings old.keepers.told new.keepers.told write e
+IsOfLine tells old new None e = ⊥
 
--- a stage of the held plan brings the entry to nodes
-abbrev pub IsOfPlan : Bool → Moment → Moment → Option HeldPlan → Entry → Type 0
-IsOfPlan tells old new (Some (of.Write p)) e = IsOfWrite tells old.core.settings old.keepers.told new.keepers.told p.write e
-IsOfPlan tells old new (Some (of.Read p)) e = ⊥
-IsOfPlan tells old new None e = ⊥
-
--- the line brings the entry to nodes, by what is asked: calls, held or not, and streams do
+-- the line brings the entry to nodes, by what is asked: a stream does, and a write, held or not, by all of its stages or by one; nothing else does
 abbrev pub IsBrought : Bool → Moment → Moment → Checked → Entry → Type 0
-IsBrought tells old new (asks.Call asked) e = IsOfCall tells old new asked e
-IsBrought tells old new (asks.Plan (plan.Hold number asked)) e = IsOfCall tells old new asked e
-IsBrought tells old new (asks.Plan (plan.Advance number)) e = IsOfPlan tells old new (plan_at old.core.plans number) e
 IsBrought tells old new (asks.Store (store.Stream region shard position)) e =
     WhereTold tells (IsToCarry old.core.settings old.keepers.told (region_store region shard) position e)
-IsBrought tells old new asked e = ⊥
+IsBrought tells old new asked e = IsOfLine tells old new (write_of old.core.plans asked) e
 
 -- ---- where a line does anything
 

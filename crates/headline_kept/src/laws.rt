@@ -1,5 +1,5 @@
 //! That each line keeps the headline.
-ghost use Rattle.headline_kept.specs.Headline.{LinesKeepHeadline, LinesKeepItems};
+ghost use Rattle.headline_kept.specs.Headline.{LinesFailRightly, LinesKeepHeadline, LinesKeepItems};
 ghost use Rattle.headline_kept.specs.Refusing.{LinesRefuseRightly, WritesStand};
 
 /// Through each line items stay as they were, unless it touches them.
@@ -12,6 +12,12 @@ pub fn items_are_kept()
 #[tactic(auto, using(crate::proofs::Refusals::lines_refuse_rightly))]
 pub fn lines_refuse_rightly()
     ensures { LinesRefuseRightly }
+{}
+
+/// A line in which something fails says so rightly: of histories, of causes, of what was written all the same, and of what is only scheduled.
+#[tactic(auto, using(crate::proofs::Failing::lines_fail_rightly))]
+pub fn lines_fail_rightly()
+    ensures { LinesFailRightly }
 {}
 
 /// A write that is acknowledged stands from then on.

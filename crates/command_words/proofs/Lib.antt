@@ -1,4 +1,4 @@
 pub mod CommandLines
 pub mod Faults
-pub mod Named
+pub mod Numbers
 pub mod WordExamples

@@ -1,11 +1,12 @@
 -- Examples of words compute.
 use Rattle.std.proofs.Common.{refl}
+use Rattle.std.specs.Fmt.{digits}
 use Rattle.clap.proofs.OnLiterals.{clap_on_literals}
 use Rattle.command_words.specs.CommandLine.{faults_in, subcommand_in}
 use Rattle.command_words.specs.Read.{ExamplesOfWords}
 
 pub examples_of_words : ExamplesOfWords
-unfolding clap_on_literals faults_in subcommand_in
+unfolding clap_on_literals faults_in subcommand_in digits
 examples_of_words = record {
   in_memory = refl;
   in_a_file = refl;
@@ -16,8 +17,21 @@ examples_of_words = record {
   no_file = refl;
   two_files = refl;
   unknown_option = refl;
+  made = refl;
+  made_otherwise = refl;
+  most = refl;
+  past_most_seed = refl;
+  past_most_calls = refl;
+  no_call = refl;
+  signed = refl;
+  padded = refl;
+  no_number = refl;
+  no_seed = refl;
+  no_calls = refl;
+  made_in_a_file = refl;
   help = refl;
   help_of_run = refl;
+  help_of_gen = refl;
   version = refl;
   no_help = refl;
 }

@@ -1,5 +1,6 @@
 -- The program's command line: a command with one subcommand for each thing that it does.
-use Rattle.std.specs.Prelude.{true, List, [], Option, Some, codes}
+use Rattle.std.specs.Prelude.{ℕ, ◌-◌, ◌^◌, true, List, [], Option, Some, codes}
+use Rattle.clap.specs.declared.builder.value_parser.ValueParser.TheVariants.{Unsigned}
 use Rattle.clap.specs.Words.{App, Kinds, Row, Rule, Shape, Text, fault_of, new_app, new_rule, subcommand_of, with_rule, with_subcommand}
 
 -- the option that names the file of the tables, with one name for its value
@@ -9,6 +10,22 @@ sql_rule = record (new_rule (codes "sql")) { long = Some (codes "sql"); value_na
 -- `run [--sql FILE]`
 abbrev pub run_shape : Shape
 run_shape = (with_rule (new_app (codes "run")) sql_rule).top
+
+-- an option that is needed, and whose value is a number in a range
+abbrev pub number_rule : List ℕ → ℕ → ℕ → Rule
+number_rule name least most = record (new_rule name) { long = Some name; parser = Some (Unsigned least most); required = true }
+
+-- the same with one name for its value
+abbrev pub named_number : List ℕ → ℕ → ℕ → Rule
+named_number name least most = record (number_rule name least most) { value_names = 1 }
+
+-- `gen --seed N`: any seed of 64 bits
+abbrev pub seed_app : App
+seed_app = with_rule (new_app (codes "gen")) (named_number (codes "seed") 0 (2 ^ 64 - 1))
+
+-- `gen --seed N --calls N`: from 1 to 100,000 calls
+abbrev pub gen_shape : Shape
+gen_shape = (with_rule seed_app (named_number (codes "calls") 1 100000)).top
 
 -- the program without its subcommands: the words don't begin with its name, and one of the subcommands is needed
 abbrev pub bare_app : App
@@ -22,9 +39,9 @@ bare_app = record {
   subs = [];
 }
 
--- the program with its one subcommand, `run`
+-- the program with its subcommands, `run` and `gen`
 abbrev pub tao_app : App
-tao_app = with_subcommand bare_app run_shape
+tao_app = with_subcommand (with_subcommand bare_app run_shape) gen_shape
 
 -- the kinds of faults that the words have: none where they are the program's
 unfoldable pub faults_in : List Text → Kinds

@@ -1,14 +1,21 @@
 //! The command that the program's words are read by.
 ghost use Rattle.std.specs.Prelude.{◌≡◌, IfOk, false, map, string_bytes};
-ghost use Rattle.clap.specs.Words.{FailsBy, app_of, shape_of, subcommand_rows_of};
-ghost use Rattle.command_words.specs.CommandLine.{faults_in, run_shape, subcommand_in, tao_app};
+ghost use Rattle.clap.specs.Words.{FailsBy, app_of, rule_of, shape_of, subcommand_rows_of, with_subcommand};
+ghost use Rattle.command_words.specs.CommandLine.{bare_app, faults_in, gen_shape, number_rule, run_shape, seed_app, subcommand_in, tao_app};
 ghost use Rattle.clap.specs.declared.builder.command.Command.TheViews.{out-Command as fields_of};
 
+use clap::builder::ValueParser;
 use clap::{Arg, ArgMatches, Command, Error};
 use std::alloc::{AllocError, Global};
 
-/// What stands below each help.
+/// What stands below the help of the program and of `run`.
 const EXAMPLE: &str = "Example: tao run < examples/tour.jsonl";
+
+/// What stands below the help of `gen`.
+const GEN_EXAMPLE: &str = "Example: tao gen --seed 7 --calls 2000 < examples/realistic.jsonl";
+
+/// The most calls that a generated run has.
+const MAX_CALLS: u64 = 100_000;
 
 /// The subcommand that serves standard input.
 fn run_command<'a>(alloc: Global) -> Result<Command<'a>, AllocError>
@@ -28,9 +35,59 @@ fn run_command<'a>(alloc: Global) -> Result<Command<'a>, AllocError>
     )
 }
 
+/// An option that is needed, and whose value is a number in a range.
+fn number_arg<'a>(alloc: Global, name: &'a str, least: u64, most: u64) -> Arg<'a>
+    ensures rule { rule_of result ≡ number_rule name.entry.now least most }
+    ensures local { result.global ≡ false }
+{
+    Arg::new(alloc, name)
+        .long(name)
+        .required(true)
+        .value_parser(ValueParser::unsigned(least, most))
+}
+
+/// `gen` with the option that names the seed.
+fn seed_command<'a>(alloc: Global) -> Result<Command<'a>, AllocError>
+    ensures app { IfOk result (λ c. app_of c ≡ seed_app) }
+    ensures local { IfOk result (λ c. (fields_of c).has_globals ≡ false) }
+{
+    let seed = number_arg(alloc, "seed", 0, u64::MAX);
+    let made = Command::new(alloc, "gen")
+        .about(
+            "Reads a configuration line, makes the requests that a seed determines, and writes how many calls were refused, and the settled logs",
+        )
+        .after_help(GEN_EXAMPLE);
+    made.arg(seed.value_name("N").help("The seed of the requests"))
+}
+
+/// The subcommand that makes its requests itself.
+fn gen_command<'a>(alloc: Global) -> Result<Command<'a>, AllocError>
+    ensures shape { IfOk result (λ c. shape_of c ≡ gen_shape) }
+    ensures local { IfOk result (λ c. (fields_of c).has_globals ≡ false) }
+{
+    let calls = number_arg(alloc, "calls", 1, MAX_CALLS);
+    let seeded = seed_command(alloc)?;
+    seeded.arg(calls.value_name("N").help("How many calls are made"))
+}
+
+/// The program with `run`.
+fn bare_command<'a>(alloc: Global) -> Result<Command<'a>, AllocError>
+    ensures app { IfOk result (λ c. app_of c ≡ with_subcommand bare_app run_shape) }
+    ensures local { IfOk result (λ c. (fields_of c).has_globals ≡ false) }
+{
+    let run = run_command(alloc)?;
+    let tao = Command::new(alloc, "tao")
+        .version("0.1.0")
+        .no_binary_name(true)
+        .disable_help_subcommand(true)
+        .subcommand_required(true);
+    tao.subcommand(run)
+}
+
 /// The command with the texts of its help, which change nothing of how words are read.
 fn described<'a>(tao: Command<'a>) -> Command<'a>
-    ensures { app_of result ≡ app_of tao.entry }
+    ensures app { app_of result ≡ app_of tao.entry }
+    ensures local { (fields_of result).has_globals ≡ (fields_of tao.entry).has_globals }
 {
     tao.about("TAO: a store for a social graph, with its caches, as one program")
         .after_help(EXAMPLE)
@@ -40,13 +97,9 @@ fn described<'a>(tao: Command<'a>) -> Command<'a>
 fn tao_command<'a>(alloc: Global) -> Result<Command<'a>, AllocError>
     ensures { IfOk result (λ c. app_of c ≡ tao_app) }
 {
-    let run = run_command(alloc)?;
-    let tao = Command::new(alloc, "tao")
-        .version("0.1.0")
-        .no_binary_name(true)
-        .disable_help_subcommand(true)
-        .subcommand_required(true);
-    described(tao).subcommand(run)
+    let made = gen_command(alloc)?;
+    let tao = described(bare_command(alloc)?);
+    tao.subcommand(made)
 }
 
 /// What the words are for the command.

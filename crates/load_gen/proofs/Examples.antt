@@ -6,4 +6,4 @@ use Rattle.load_gen.specs.Examples.{RequestsByExample}
 
 pub examples : RequestsByExample
 unfolding next_state digits
-examples = record { step = refl; drawn = refl; kind = refl; no_call = refl; one_call = refl; nodes = refl; four_calls = refl }
+examples = record { step = refl; drawn = refl; kind = refl; no_call = refl; one_call = refl; nodes = refl; four_calls = refl; summed = refl }

@@ -1,3 +1,4 @@
+pub mod Counted
 pub mod Examples
 pub mod Few
 pub mod Ids

@@ -15,6 +15,7 @@ use Rattle.load_gen.specs.Calls.{read_of, write_of}
 use Rattle.load_gen.specs.Draws.{below, next_state}
 use Rattle.load_gen.specs.Names.{names_of}
 use Rattle.load_gen.specs.Requests.{requests_of}
+use Rattle.load_gen.specs.Summary.{summary_text}
 
 -- ---- two configurations
 
@@ -67,7 +68,7 @@ abbrev pub edge : ℕ → List ℕ → ℕ → EdgeName
 edge id1 atype id2 = record { list = record { id1 = id1; atype = atype }; id2 = id2 }
 
 -- The first draw of seed 0 is the number 7 below 10, out of 167951807. Over one shard this counts the edges of a list. Of four calls of seed 7 over
--- two regions one delivers a message, one adds an edge, one deletes one, and one moves a stream.
+-- two regions one delivers a message, one adds an edge, one deletes one, and one moves a stream. The line of 2,000 calls, of which 177 were refused.
 pub record RequestsByExample : Type 0 where
   pub step : next_state 0 ≡ 1442695040888963407
   pub drawn : (below (2 ^ 31) 0).0 ≡ 167951807
@@ -83,3 +84,4 @@ pub record RequestsByExample : Type 0 where
       ∷ write_of 2 2 (AssocAdd (edge 281474976710676 (codes "friend") 1125899906842664) 686 [])
       ∷ write_of 4 3 (AssocDelete (edge 31 (codes "likes") 562949953421318))
       ∷ Store (Stream (codes "east") 7 None) ∷ Store Settle ∷ []
+  pub summed : summary_text 2000 177 ≡ codes "{\"calls\":2000,\"ok\":\"gen\",\"refused\":177}"

@@ -7,3 +7,4 @@ pub mod Names
 pub mod NamesView
 pub mod Nodes
 pub mod Requests
+pub mod Summary

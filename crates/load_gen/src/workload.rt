@@ -26,7 +26,7 @@ pub struct Workload {
 }
 
 impl Model for Workload {
-    ghost use Rattle.std.specs.Prelude.{List};
+    ghost use Rattle.std.specs.Prelude.{◌≤◌, List};
     ghost use Rattle.requests.specs.declared.request.Request.{Request};
 
     ghost Value = { List Request };
@@ -34,11 +34,14 @@ impl Model for Workload {
     ghost use Rattle.load_gen.specs.Left.{requests_left};
 
     ghost view = { requests_left };
+
+    ghost invariant = { λ w. w.made ≤ w.calls };
 }
 
 impl Workload {
     ghost use Rattle.std.specs.Prelude.{◌≡◌, IfOk, OnErr};
     ghost use Rattle.load_gen.specs.Requests.{first_of, requests_of};
+    ghost use Rattle.load_gen.specs.Summary.{calls_in};
 
     /// The workload of a seed and a number of calls over a configuration, whose names are copied.
     pub fn make(
@@ -47,7 +50,8 @@ impl Workload {
         seed: u64,
         calls: u64,
     ) -> Result<Workload, OutOfMemory>
-        ensures { IfOk result (λ workload. workload ≡ requests_of config.now seed calls) }
+        ensures requests { IfOk result (λ workload. workload ≡ requests_of config.now seed calls) }
+        ensures calls { IfOk result (λ workload. calls_in workload ≡ calls) }
     {
         Ok(Workload {
             names: Names::of(alloc, config)?,
@@ -57,6 +61,13 @@ impl Workload {
             calls,
             settled: false,
         })
+    }
+
+    /// How many calls are still to come.
+    pub fn calls_left(&self) -> u64
+        ensures { result ≡ calls_in self.now }
+    {
+        self.calls - self.made
     }
 
     /// The next request; none after the last one. Where there is no memory for it, it stays to come. Takes time in the lengths

@@ -142,4 +142,6 @@ impl Sink for MemorySink {
         }
         Ok(piece.len())
     }
+
+    fn progress(&mut self, _done: u64, _all: u64) {}
 }

@@ -1,5 +1,5 @@
 //! Sinks: where bytes go.
-ghost use Rattle.std.specs.Prelude.{ℕ, List, Option};
+ghost use Rattle.std.specs.Prelude.{ℕ, ◌≡◌, List, Option};
 ghost use Rattle.std.specs.Io.{WritesAtMost};
 ghost use Rattle.std.specs.Io.KnownBytes.{WriteAppends};
 ghost use Rattle.counts.specs.Count.{HasCause};
@@ -35,4 +35,9 @@ pub trait Sink {
         ensures bytes { WriteAppends (taken self.old) (taken self.new) result piece.now }
         ensures cause { HasCause (faults self.old) (faults self.new) result }
         ensures some { TakesSome (faults self.old) (faults self.new) result piece.now };
+
+    /// Is told that so many of all calls of a run are done, for who watches it. It takes no bytes by that.
+    fn progress(&mut self, done: u64, all: u64)
+        ensures taken { taken self.new ≡ taken self.old }
+        ensures faults { faults self.new ≡ faults self.old };
 }

@@ -89,4 +89,6 @@ impl<W: Write> Sink for StdSink<W> {
             }
         }
     }
+
+    fn progress(&mut self, _done: u64, _all: u64) {}
 }

@@ -1,8 +1,11 @@
 -- A good run where nothing fails ends as its stores agree, or for want of memory.
-use Rattle.std.proofs.Common.{◌≡◌, ◌⊎◌, ◌≤◌, ◌^◌, ℕ, Bool, true, false, List, [], ◌∷◌, ◌++◌, length, Option, IfSome, Err, inl, inr, refl, sym}
+use Rattle.std.proofs.Common.{◌≡◌, ◌⊎◌, ◌≤◌, ◌^◌, ℕ, Bool, true, false, List, [], ◌∷◌, ◌++◌, length, map, Option, Result, IfSome, Err, ap, inl, inr, refl, sym}
 use Rattle.std.proofs.Common.{subst, ◌∙◌, lit<, arith}
 use Rattle.std.specs.Prelude.{IsOk, Ok}
 use Rattle.command_words.specs.Read.{words_in}
+use Rattle.command_words.specs.declared.Words.{Words}
+use Rattle.command_words.specs.declared.Words.TheVariants.{Gen, Run}
+use Rattle.command_words.specs.declared.WordsRefusal.{WordsRefusal}
 use Rattle.command_words.specs.declared.WordsRefusal.TheVariants.{Usage}
 use Rattle.config_json.specs.Config.{config_in}
 use Rattle.tao_io.specs.Lines.{lines_of}
@@ -16,9 +19,10 @@ use Rattle.region_stream.proofs.AgreeLemmas.{differences_tell}
 use Rattle.shard_log.specs.View.{Begins}
 use Rattle.tao_core.specs.Core.{CoreState}
 use Rattle.tao_top.proofs.GoingOn.{IsOver, none_after}
-use Rattle.tao_top.specs.Served.{AreLines, Done, LinesBegin, RefusesConfiguration, IsConfigurationRefused, StoresDisagree, serves, start}
+use Rattle.tao_top.specs.Served.{AreLines, Done, LinesBegin, RefusesConfiguration, IsConfigurationRefused, StoresDisagree, given_by, requests_by, serves}
+use Rattle.tao_top.specs.Served.{start, streams}
 use Rattle.tao_top.specs.Status.{EndsByStores, IsGood, IsStatus, NoFault, StoresAgree}
-use Rattle.tao_top.specs.Step.{Configures, RunStage, RunsLines, State, TakesLine, disagreeing, ended, serving}
+use Rattle.tao_top.specs.Step.{Configures, Given, ReplyLine, RunStage, Runs, State, TakesLine, disagreeing, ended, line_read, request_made, serving}
 use Rattle.tao_top.specs.Stop.{Faults, StopHasCause, stop_code}
 use Rattle.replies.specs.declared.reply.Reply.{Reply}
 use Rattle.replies.specs.declared.reply.Reply.TheVariants.{BadConfiguration, BadStores, Configured}
@@ -39,10 +43,10 @@ known_status (Interrupted InputTooLong) = (8, lit< tt, refl)
 -- ---- stores that agree
 
 -- a run that serves at its end was at no stage that is one
-not_over : (tells : Bool) (core : CoreState) (now : Outside) (stage : RunStage) (around : Outside) (lines texts : List (List ℕ)) → IsOver stage
-    → RunsLines tells (record { stage = stage; outside = around }) lines texts (serves core now) → ⊥
-not_over tells core now stage around lines texts over run =
-    let none = none_after tells stage around lines texts (serves core now) over run in
+not_over : (tells : Bool) (core : CoreState) (now : Outside) (stage : RunStage) (around : Outside) (given : List Given) (replies : List ReplyLine) → IsOver stage
+    → Runs tells (record { stage = stage; outside = around }) given replies (serves core now) → ⊥
+not_over tells core now stage around given replies over run =
+    let none = none_after tells stage around given replies (serves core now) over run in
     subst (λ (s : State). IsOver s.stage) (sym none.last_is) over
 
 -- where stores are opened and served, each log begins its master's
@@ -108,27 +112,36 @@ module _ (tells : Bool) (words : List (List ℕ)) (old now : Outside) (left befo
       differences_tell.tell (tables at).log (master_log s tables at.shard) is.found.position begins told.disagrees.differs
 
   -- the stores of a run that is done agree
-  by_reply : (core : CoreState) (lines texts : List (List ℕ)) (reply : Reply) (stage : RunStage) (around : Outside)
+  by_reply : (core : CoreState) (given : List Given) (replies : List ReplyLine) (reply : Reply) (stage : RunStage) (around : Outside)
       → Configures tells old good.first reply stage around
-      → RunsLines tells (record { stage = stage; outside = around }) lines texts (serves core now) → StoresAgree good.settings old.keepers.told
-  by_reply core lines texts Configured (serving c) around step run =
+      → Runs tells (record { stage = stage; outside = around }) given replies (serves core now) → StoresAgree good.settings old.keepers.told
+  by_reply core given replies Configured (serving c) around step run =
       subst (λ s. StoresAgree s old.keepers.told) (settings_are c.settings step.configured) (taken_agree tells old around good.first c good.told step)
-  by_reply core lines texts (BadConfiguration field) ended around step run = absurd (not_over tells core now ended around lines texts tt run)
-  by_reply core lines texts (BadStores store position) (disagreeing s) around step run =
-      absurd (not_over tells core now (disagreeing s) around lines texts tt run)
-  by_reply core lines texts reply stage around step run = absurd step
+  by_reply core given replies (BadConfiguration field) ended around step run = absurd (not_over tells core now ended around given replies tt run)
+  by_reply core given replies (BadStores store position) (disagreeing s) around step run =
+      absurd (not_over tells core now (disagreeing s) around given replies tt run)
+  by_reply core given replies reply stage around step run = absurd step
 
-  by_texts : (core : CoreState) (texts : List (List ℕ)) → RunsLines tells (start old) (good.first ∷ good.others) texts (serves core now)
-      → StoresAgree good.settings old.keepers.told
-  by_texts core [] run = absurd run
-  by_texts core (text ∷ texts) run = by_reply core good.others texts run.1.0 run.0.stage run.0.outside run.1.1.does run.2
+  by_replies : (core : CoreState) (given : List Given) (replies : List ReplyLine)
+      → Runs tells (start old) (line_read good.first ∷ given) replies (serves core now) → StoresAgree good.settings old.keepers.told
+  by_replies core given [] run = absurd run
+  by_replies core given (r ∷ replies) run = by_reply core given replies run.1.0 run.0.stage run.0.outside run.1.1.does run.2
 
-  done_agree : Done tells old now left before after → StoresAgree good.settings old.keepers.told
+  -- the first line is what is given first, whatever the words ask for
+  given_are : (asked : Result Words WordsRefusal) → IsOk asked → (others : List Given) × (given_by asked (good.first ∷ good.others) ≡ line_read good.first ∷ others)
+  given_are (Ok (Run sql)) ok = (map line_read good.others, refl)
+  given_are (Ok (Gen seed calls)) ok = (map request_made (requests_by seed calls (config_in good.first)), refl)
+  given_are (Err refused) ok = absurd (cc ok)
+
+  done_agree : Done (words_in words) tells old now (streams left before) after → StoresAgree good.settings old.keepers.told
   done_agree done =
-      let served = done.served in
-      let lines_are : lines_of good.bytes ≡ served.lines = subst (λ l. AreLines l served.lines) good.known served.read in
-      by_texts done.core served.texts
-      (subst (λ ls. RunsLines tells (start old) ls served.texts (serves done.core now)) (sym lines_are ∙ good.lines) served.run)
+      let answered = done.answered in
+      let lines_are : lines_of good.bytes ≡ answered.read.0 = subst (λ l. AreLines l answered.read.0) good.known answered.read.1 in
+      let others = given_are (words_in words) good.asked in
+      let given : answered.given ≡ line_read good.first ∷ others.0 =
+      sym answered.read.2 ∙ ap (given_by (words_in words)) (sym lines_are ∙ good.lines) ∙ others.1 in
+      by_replies done.core others.0 answered.replies
+      (subst (λ gs. Runs tells (start old) gs answered.replies (serves done.core now)) given answered.run)
 
   -- ---- its status
 
@@ -138,7 +151,7 @@ module _ (tells : Bool) (words : List (List ℕ)) (old now : Outside) (left befo
   for_memory : (code : ℕ) → code ≡ 7 → Ends code
   for_memory code is = record { agree = λ _. inr is; disagree = λ _. inr is }
 
-  pub ends_done : Done tells old now left before after → Ends 0
+  pub ends_done : Done (words_in words) tells old now (streams left before) after → Ends 0
   ends_done done = record { agree = λ _. inl refl; disagree = λ none. absurd (none (done_agree done)) }
 
   pub ends_idle : (code : ℕ) → (code ≡ 2 → words_in words ≡ Err Usage) → (code ≡ 2) ⊎ (code ≡ 7) → Ends code

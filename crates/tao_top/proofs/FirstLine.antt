@@ -2,8 +2,8 @@
 use Rattle.std.proofs.Common.{◌≡◌, ℕ, Bool, List, [], ◌∷◌, length, Option, Result, Ok, Err, OnErr, inl, inr, refl, sym, subst, codes, arith}
 use Rattle.tao_keeper.proofs.Later.{later_self}
 use Rattle.tao_keeper.specs.KeeperState.{KeeperState, IsLater}
-use Rattle.std.proofs.lemmas.List.{take_all}
 use Rattle.std.specs.Io.KnownBytes.{Appends}
+use Rattle.command_words.specs.declared.Words.{Words}
 use Rattle.config_json.specs.Config.{config_in}
 use Rattle.config_json.specs.declared.refusal.ConfigRefusal.TheVariants.{BadConfig}
 use Rattle.graph_model.specs.Told.{WhereTold}
@@ -17,19 +17,16 @@ use Rattle.tao_link.specs.Shown.{LinkShown}
 use Rattle.tao_io.specs.Lines.{GivesLines, IsTooLong, NextLineIs}
 use Rattle.tao_io.specs.declared.lines.NextLine.{NextLine}
 use Rattle.tao_io.specs.declared.lines.NextLine.TheVariants.{End}
-use Rattle.tao_top.proofs.GoingOn.{GivesLines-all, GivesLines-begin, part_none, part_one, served_one, still_refl}
+use Rattle.tao_top.proofs.Answering.{answered_first, answered_none, printed_configured, printed_first}
+use Rattle.tao_top.proofs.GoingOn.{GivesLines-all, GivesLines-begin, still_refl}
 use Rattle.tao_top.proofs.OneLine.{no_configuration}
-use Rattle.tao_top.specs.Begun.{EndsAtFirst, GivesOne, RefusesFirst, RefusesFor, RefusesInPart, RefusesLine, ConfiguredInPart, TellsDisagreement}
+use Rattle.tao_top.specs.Begun.{EndsAtFirst, GivesOne, RefusesFirst, RefusesFor, RefusesInPart, RefusesLine, RepliesFirst, ConfiguredInPart, TellsDisagreement}
 use Rattle.core_nodes.specs.Outside.{Outside, outside}
-use Rattle.tao_top.specs.Served.{AppendsPart, AreLines, EndsInPart, OpensInPart, RefusesConfiguration, Served, StopsOpening, refusal_line, serves}
+use Rattle.tao_top.specs.Served.{AppendsPart, AreLines, EndsInPart, OpensInPart, RefusesConfiguration, StopsOpening, ends_with, printed, refusal_line, serves}
 use Rattle.tao_top.specs.Served.{AtOpeningOrLater, StoresDisagree, disagreement_line}
-use Rattle.tao_top.specs.Served.{start, streams}
-use Rattle.tao_top.specs.Step.{State, disagreeing, ended, Configures, Disagreement, Replies, Step, reply_line, serving}
+use Rattle.tao_top.specs.Served.{start, streams, told_configured, unless_configured}
+use Rattle.tao_top.specs.Step.{ReplyLine, State, disagreeing, ended, Configures, Disagreement, Step, line_at, line_read}
 use Rattle.topology.specs.Config.{Settings}
-
--- what was written whole is a front of itself
-pub whole_part : (before after : Option (List ℕ)) (bytes : List ℕ) → Appends before after bytes → AppendsPart before after bytes
-whole_part before after bytes written = (length bytes, subst (Appends before after) (sym (take_all (length bytes) bytes (omega arith))) written)
 
 -- the run has refused its configuration
 abbrev pub refusing : Outside → State
@@ -41,8 +38,17 @@ parting s now = record { stage = disagreeing s; outside = now }
 
 -- a line that is no configuration is refused
 no_step : (tells : Bool) (around : Outside) (line field : List ℕ) → config_in line ≡ Err (BadConfig field)
-    → Step tells (start around) line (BadConfiguration field) (refusing around)
+    → Step tells (start around) (line_read line) (BadConfiguration field) (refusing around)
 no_step tells around line field is = record { does = inl (record { refused = is; same = refl }); later = later_self around.keepers }
+
+-- its refusal is a first reply
+refused_first : (words : Words) (tells : Bool) (around : Outside) (line : List ℕ) (before after : Option (List ℕ)) → RefusesFor line (AppendsPart before after)
+    → RepliesFirst words tells (start around) line (refusing around) (AppendsPart before after)
+refused_first words tells around line before after refused = (
+  BadConfiguration refused.0,
+  no_step tells around line refused.0 refused.1,
+  subst (AppendsPart before after) (sym (printed_first words line (line_at ended (BadConfiguration refused.0)) refl)) refused.2,
+)
 
 -- ---- the reading of the first line
 
@@ -58,13 +64,14 @@ module _ (left rest : Option (List ℕ)) where
 
 module _ (left rest before after : Option (List ℕ)) where
   pub ends_unread : Appends before after [] → EndsAtFirst left before after
-  ends_unread written = λ tells around. inr (part_none tells (start around) around left before after written (still_refl tells around (start around) refl))
+  ends_unread written = λ words tells around.
+      inr (answered_none (Ok words) tells (start around) around left before after written (still_refl tells around (start around) refl))
 
   pub ends_at_first : (line : List ℕ) → GivesLines left rest (line ∷ []) → RefusesInPart line before after → EndsAtFirst left before after
   ends_at_first line read (inl nothing) = ends_unread nothing
-  ends_at_first line read (inr refused) = λ tells around.
-      inr (part_one tells (start around) (refusing around) around left rest before after line read
-      (BadConfiguration refused.0, no_step tells around line refused.0 refused.1, refused.2) (still_refl tells around (refusing around) refl))
+  ends_at_first line read (inr refused) = λ words tells around.
+      inr (answered_first words tells (start around) (refusing around) around left rest before after line read
+      (refused_first words tells around line before after refused) (still_refl tells around (refusing around) refl))
 
   pub ends_at_first_of : {T E : Type 0} (result : Result T E) (line : List ℕ) → GivesLines left rest (line ∷ [])
       → OnErr result (RefusesInPart line before after) → OnErr result (EndsAtFirst left before after)
@@ -92,7 +99,7 @@ module _ (left rest before after : Option (List ℕ)) where
 
   pub ends_lacking : (next : NextLine) (line : List ℕ) → NextLineIs next left rest line → next ≡ End → AppendsPart before after (refusal_line [])
       → EndsAtFirst left before after
-  ends_lacking next line is end written = λ tells around. inl (record { read = none_left next line is end; written = written; same = refl })
+  ends_lacking next line is end written = λ words tells around. inl (record { read = none_left next line is end; written = written; same = refl })
 
   pub refuses_lacking : (next : NextLine) (line : List ℕ) → NextLineIs next left rest line → next ≡ End → Appends before after (refusal_line [])
       → RefusesFirst left before after
@@ -104,7 +111,7 @@ module _ (tells : Bool) (old now : Outside) (line : List ℕ) (s : Settings) (co
     (stays : now.link ≡ old.link) where
   pub takes : (core : CoreState) → core.settings ≡ s → IsNewCore core → IsCoreOf tells now.keepers.told core
       → WhereTold tells (AreAtStores now.keepers.told core.fleet)
-      → WhereTold tells (IsOpened s line old.keepers.told now.keepers.told) → Step tells (start old) line Configured (serves core now)
+      → WhereTold tells (IsOpened s line old.keepers.told now.keepers.told) → Step tells (start old) (line_read line) Configured (serves core now)
   takes core is begun of_core ends opened = record {
     does = record {
       configured = subst (λ t. config_in line ≡ Ok t) (sym is) configured;
@@ -121,25 +128,34 @@ module _ (tells : Bool) (old now : Outside) (line : List ℕ) (s : Settings) (co
       → Configures tells old line (BadConfiguration (codes "file")) ended now
   other_line other = inr (record { settings = s; configured = configured; field_is = refl; other = other; link = stays })
 
-  module _ (before after : Option (List ℕ)) where
+  module _ (words : Words) (before after : Option (List ℕ)) where
+    -- a reply other than that the configuration was taken is printed
+    first_written : (r : ReplyLine) → unless_configured r.reply r.text ≡ r.text → AppendsPart before after r.text
+        → AppendsPart before after (printed (Ok words) (line_read line ∷ []) (r ∷ []))
+    first_written r is written = subst (AppendsPart before after) (sym (printed_first words line r is)) written
+
     pub begins : (core : CoreState) → core.settings ≡ s → IsNewCore core → IsCoreOf tells now.keepers.told core
         → WhereTold tells (AreAtStores now.keepers.told core.fleet)
-        → WhereTold tells (IsOpened s line old.keepers.told now.keepers.told) → Appends before after (reply_line (serving core) Configured)
-        → Replies tells (start old) line (serves core now) (Appends before after)
-    begins core is begun of_core ends opened written = (Configured, takes core is begun of_core ends opened, written)
+        → WhereTold tells (IsOpened s line old.keepers.told now.keepers.told) → Appends before after (told_configured words core)
+        → RepliesFirst words tells (start old) line (serves core now) (Appends before after)
+    begins core is begun of_core ends opened written =
+        (Configured, takes core is begun of_core ends opened, subst (Appends before after) (sym (printed_configured words line core)) written)
 
     pub begun_silent : (core : CoreState) → core.settings ≡ s → IsNewCore core → IsCoreOf tells now.keepers.told core
         → WhereTold tells (AreAtStores now.keepers.told core.fleet)
-        → WhereTold tells (IsOpened s line old.keepers.told now.keepers.told) → AppendsPart before after (reply_line (serving core) Configured)
-        → (code : ℕ) → AtOpeningOrLater code (OpensInPart tells old now line before after) (ConfiguredInPart tells old now line before after)
-    begun_silent core is begun of_core ends opened written code =
-        inr (serves core now, (Configured, takes core is begun of_core ends opened, written), still_refl tells now (serves core now) refl)
+        → WhereTold tells (IsOpened s line old.keepers.told now.keepers.told) → AppendsPart before after (told_configured words core)
+        → (code : ℕ) → AtOpeningOrLater code (OpensInPart tells old now line before after) (ConfiguredInPart words tells old now line (AppendsPart before after))
+    begun_silent core is begun of_core ends opened written code = inr (
+      serves core now,
+      (Configured, takes core is begun of_core ends opened, subst (AppendsPart before after) (sym (printed_configured words line core)) written),
+      still_refl tells now (serves core now) refl,
+    )
 
     pub begun_other : WhereTold tells (IsOtherLine s line old.keepers.told now.keepers.told) → AppendsPart before after (refusal_line (codes "file"))
-        → (code : ℕ) → AtOpeningOrLater code (OpensInPart tells old now line before after) (ConfiguredInPart tells old now line before after)
+        → (code : ℕ) → AtOpeningOrLater code (OpensInPart tells old now line before after) (ConfiguredInPart words tells old now line (AppendsPart before after))
     begun_other other written code = inr (
       refusing now,
-      (BadConfiguration (codes "file"), record { does = other_line other; later = later }, written),
+      (BadConfiguration (codes "file"), record { does = other_line other; later = later }, first_written (line_at ended (BadConfiguration (codes "file"))) refl written),
       still_refl tells now (refusing now) refl,
     )
 
@@ -152,10 +168,14 @@ module _ (tells : Bool) (old now : Outside) (line : List ℕ) (s : Settings) (co
       disagreement = record { settings = s; store = store; position = position }
 
       pub begun_disagreeing : AppendsPart before after (disagreement_line disagreement)
-          → (code : ℕ) → AtOpeningOrLater code (OpensInPart tells old now line before after) (ConfiguredInPart tells old now line before after)
+          → (code : ℕ) → AtOpeningOrLater code (OpensInPart tells old now line before after) (ConfiguredInPart words tells old now line (AppendsPart before after))
       begun_disagreeing written code = inr (
         parting s now,
-        (BadStores store position, record { does = record { configured = configured; disagree = disagree; link = stays }; later = later }, written),
+        (
+          BadStores store position,
+          record { does = record { configured = configured; disagree = disagree; link = stays }; later = later },
+          first_written (line_at (disagreeing s) (BadStores store position)) refl written,
+        ),
         still_refl tells now (parting s now) refl,
       )
 
@@ -171,15 +191,15 @@ module _ (tells : Bool) (old now : Outside) (line : List ℕ) (s : Settings) (co
     opens_in_part opened written = record { settings = s; configured = configured; opened = opened; later = later; link = stays; written = written }
 
 -- so its reply was begun, whatever a link shows
-pub begun_whatever : (tells : Bool) (old now : KeeperState) (line : List ℕ) (s : Settings) (configured : config_in line ≡ Ok s) (later : IsLater old now)
-    (before after : Option (List ℕ)) (core : CoreState)
+pub begun_whatever : (words : Words) (tells : Bool) (old now : KeeperState) (line : List ℕ) (s : Settings) (configured : config_in line ≡ Ok s)
+    (later : IsLater old now) (before after : Option (List ℕ)) (core : CoreState)
     → core.settings ≡ s → IsNewCore core → IsCoreOf tells now.told core → WhereTold tells (AreAtStores now.told core.fleet)
     → WhereTold tells (IsOpened s line old.told now.told)
-    → AppendsPart before after (reply_line (serving core) Configured)
+    → AppendsPart before after (told_configured words core)
     → (code : ℕ) (link : LinkShown) → AtOpeningOrLater code (OpensInPart tells (outside old link) (outside now link) line before after)
-    (ConfiguredInPart tells (outside old link) (outside now link) line before after)
-begun_whatever tells old now line s configured later before after core is begun of_core ends opened written code link =
-    begun_silent tells (outside old link) (outside now link) line s configured later refl before after core is begun of_core ends opened written code
+    (ConfiguredInPart words tells (outside old link) (outside now link) line (AppendsPart before after))
+begun_whatever words tells old now line s configured later before after core is begun of_core ends opened written code link =
+    begun_silent tells (outside old link) (outside now link) line s configured later refl words before after core is begun of_core ends opened written code
 
 -- ---- both
 
@@ -187,10 +207,11 @@ module _ (tells : Bool) (old now : Outside) (left rest before after : Option (Li
   pub stops_opening : OpensInPart tells old now line before after → StopsOpening tells old now left before after
   stops_opening opens = (line, GivesLines-begin left rest (line ∷ []) read, opens)
 
-  pub begun_part : (code : ℕ) → AtOpeningOrLater code (OpensInPart tells old now line before after) (ConfiguredInPart tells old now line before after)
-      → EndsInPart code tells old now (streams left before) after
-  begun_part code (inl opens) = inl (opens.0, stops_opening opens.1)
-  begun_part code (inr said) = inr (inr (part_one tells (start old) said.0 now left rest before after line read said.1 said.2))
+  pub begun_part : (words : Words) (code : ℕ)
+      → AtOpeningOrLater code (OpensInPart tells old now line before after) (ConfiguredInPart words tells old now line (AppendsPart before after))
+      → EndsInPart (ends_with code (Ok words)) tells old now (streams left before) after
+  begun_part words code (inl opens) = inl (opens.0, stops_opening opens.1)
+  begun_part words code (inr said) = inr (inr (answered_first words tells (start old) said.0 now left rest before after line read said.1 said.2))
 
   pub refuses_line : RefusesLine tells old now line before after → RefusesConfiguration tells old now left before after
   refuses_line r = record { field = r.field; refused = inr (line, GivesLines-begin left rest (line ∷ []) read, r.refused); written = r.written }
@@ -203,7 +224,3 @@ module _ (tells : Bool) (old now : Outside) (left rest before after : Option (Li
     disagree = tell.disagree;
     written = tell.written;
   }
-
-  pub begun : (core : CoreState) → Replies tells (start old) line (serves core now) (Appends before after)
-      → Served tells (start old) (serves core now) (streams left before) (streams rest after)
-  begun core replied = served_one tells (start old) (serves core now) left rest before after line read replied

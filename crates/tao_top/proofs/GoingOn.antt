@@ -1,6 +1,6 @@
 -- A run goes on, from line to line and from part to part.
-use Rattle.std.proofs.Common.{◌≡◌, ℕ, ◌+◌, Bool, List, [], ◌∷◌, ◌++◌, Option, Some, None, refl, sym, ap, ◌∙◌, subst, take, length, append_assoc, arith}
-use Rattle.std.proofs.lemmas.List.{append-nil, take_all}
+use Rattle.std.proofs.Common.{◌≡◌, ℕ, ◌+◌, Bool, List, [], ◌∷◌, ◌++◌, Option, Some, None, refl, sym, ap, ◌∙◌, subst, take, length, map, append_assoc, arith}
+use Rattle.std.proofs.lemmas.List.{append-nil, map-append, take_all}
 use Rattle.std.proofs.lemmas.Grind.{flat_map-append}
 use Rattle.std.proofs.Math.Seq.{take-append-add}
 use Rattle.std.specs.Io.KnownBytes.{Appends, IsAtEnd}
@@ -10,17 +10,24 @@ use Rattle.tao_io.specs.Lines.{lines_of, GivesLines}
 use Rattle.core_nodes.specs.Outside.{Outside}
 use Rattle.tao_top.specs.Served.{AreLines, LinesBegin, AppendsPart, IsStill, Served, ServedAll, ServedInPart, joined, streams}
 use Rattle.std.specs.Prelude.{⊤}
-use Rattle.tao_top.specs.Step.{RunStage, State, Replies, RunsLines, disagreeing, ended, reply_line, serving, waiting}
+use Rattle.tao_top.specs.Step.{Given, ReplyLine, RunStage, Runs, State, Replies, disagreeing, ended, line_at, line_read, serving, waiting}
 use Rattle.tao_io.proofs.LineLaws.{lines_of-nil}
 
 -- ---- the parts of a run
 
-pub RunsLines-append : (tells : Bool) (a b c : State) (ls ms ts us : List (List ℕ)) → RunsLines tells a ls ts b → RunsLines tells b ms us c
-    → RunsLines tells a (ls ++ ms) (ts ++ us) c
-RunsLines-append tells a b c [] ms [] us first second = subst (λ s. RunsLines tells s ms us c) first second
-RunsLines-append tells a b c [] ms (t ∷ ts) us first second = absurd first
-RunsLines-append tells a b c (l ∷ ls) ms [] us first second = absurd first
-RunsLines-append tells a b c (l ∷ ls) ms (t ∷ ts) us first second = (first.0, first.1, RunsLines-append tells first.0 b c ls ms ts us first.2 second)
+pub Runs-append : (tells : Bool) (a b c : State) (gs hs : List Given) (rs qs : List ReplyLine) → Runs tells a gs rs b → Runs tells b hs qs c
+    → Runs tells a (gs ++ hs) (rs ++ qs) c
+Runs-append tells a b c [] hs [] qs first second = subst (λ s. Runs tells s hs qs c) first second
+Runs-append tells a b c [] hs (r ∷ rs) qs first second = absurd first
+Runs-append tells a b c (g ∷ gs) hs [] qs first second = absurd first
+Runs-append tells a b c (g ∷ gs) hs (r ∷ rs) qs first second = (first.0, first.1, Runs-append tells first.0 b c gs hs rs qs first.2 second)
+
+-- what each of these is given as
+module _ {X : Type 0} (given_as : X → Given) where
+  pub Runs-map : (tells : Bool) (a b c : State) (xs ys : List X) (rs qs : List ReplyLine) → Runs tells a (map given_as xs) rs b → Runs tells b (map given_as ys) qs c
+      → Runs tells a (map given_as (xs ++ ys)) (rs ++ qs) c
+  Runs-map tells a b c xs ys rs qs first second =
+      subst (λ gs. Runs tells a gs (rs ++ qs) c) (sym (map-append given_as xs ys)) (Runs-append tells a b c (map given_as xs) (map given_as ys) rs qs first second)
 
 -- a run at this stage answers no line more
 abbrev pub IsOver : RunStage → Type 0
@@ -30,38 +37,38 @@ IsOver ended = ⊤
 IsOver (disagreeing s) = ⊤
 
 -- none was answered after it
-pub record AnsweredNone (lines texts : List (List ℕ)) (at last : State) : Type 0 where
-  pub no_line : lines ≡ []
-  pub no_text : texts ≡ []
+pub record AnsweredNone (given : List Given) (replies : List ReplyLine) (at last : State) : Type 0 where
+  pub none_given : given ≡ []
+  pub no_reply : replies ≡ []
   pub last_is : last ≡ at
 
-pub none_after : (tells : Bool) (stage : RunStage) (around : Outside) (lines texts : List (List ℕ)) (last : State) → IsOver stage
-    → RunsLines tells (record { stage = stage; outside = around }) lines texts last
-    → AnsweredNone lines texts (record { stage = stage; outside = around }) last
-none_after tells waiting around lines texts last over run = absurd over
-none_after tells (serving core) around lines texts last over run = absurd over
-none_after tells ended around [] [] last over run = record { no_line = refl; no_text = refl; last_is = run }
-none_after tells ended around (line ∷ lines) (text ∷ texts) last over run = absurd run.1.1.does
-none_after tells ended around [] (text ∷ texts) last over run = absurd run
-none_after tells ended around (line ∷ lines) [] last over run = absurd run
-none_after tells (disagreeing s) around [] [] last over run = record { no_line = refl; no_text = refl; last_is = run }
-none_after tells (disagreeing s) around (line ∷ lines) (text ∷ texts) last over run = absurd run.1.1.does
-none_after tells (disagreeing s) around [] (text ∷ texts) last over run = absurd run
-none_after tells (disagreeing s) around (line ∷ lines) [] last over run = absurd run
+pub none_after : (tells : Bool) (stage : RunStage) (around : Outside) (given : List Given) (replies : List ReplyLine) (last : State) → IsOver stage
+    → Runs tells (record { stage = stage; outside = around }) given replies last
+    → AnsweredNone given replies (record { stage = stage; outside = around }) last
+none_after tells waiting around given replies last over run = absurd over
+none_after tells (serving core) around given replies last over run = absurd over
+none_after tells ended around [] [] last over run = record { none_given = refl; no_reply = refl; last_is = run }
+none_after tells ended around (g ∷ given) (r ∷ replies) last over run = absurd run.1.1.does
+none_after tells ended around [] (r ∷ replies) last over run = absurd run
+none_after tells ended around (g ∷ given) [] last over run = absurd run
+none_after tells (disagreeing s) around [] [] last over run = record { none_given = refl; no_reply = refl; last_is = run }
+none_after tells (disagreeing s) around (g ∷ given) (r ∷ replies) last over run = absurd run.1.1.does
+none_after tells (disagreeing s) around [] (r ∷ replies) last over run = absurd run
+none_after tells (disagreeing s) around (g ∷ given) [] last over run = absurd run
 
--- the text of a line's reply
-abbrev text_of : (tells : Bool) (a b : State) (line : List ℕ) (Writes : List ℕ → Type 0) → Replies tells a line b Writes → List ℕ
-text_of tells a b line Writes replied = reply_line b.stage replied.0
+-- the reply to what is given, with its line
+abbrev pub reply_of : (tells : Bool) (a b : State) (given : Given) (So : ReplyLine → Type 0) → Replies tells a given b So → ReplyLine
+reply_of tells a b given So replied = line_at b.stage replied.0
 
-RunsLines-one : (tells : Bool) (a b : State) (line : List ℕ) (Writes : List ℕ → Type 0) (replied : Replies tells a line b Writes)
-    → RunsLines tells a (line ∷ []) (text_of tells a b line Writes replied ∷ []) b
-RunsLines-one tells a b line Writes replied = (b, (replied.0, replied.1, refl), refl)
+pub Runs-one : (tells : Bool) (a b : State) (given : Given) (So : ReplyLine → Type 0) (replied : Replies tells a given b So)
+    → Runs tells a (given ∷ []) (reply_of tells a b given So replied ∷ []) b
+Runs-one tells a b given So replied = (b, (replied.0, replied.1, refl), refl)
 
-joined-append : (ts us : List (List ℕ)) → joined (ts ++ us) ≡ joined ts ++ joined us
-joined-append ts us = flat_map-append (λ t. t) ts us
+joined-append : (rs qs : List ReplyLine) → joined (rs ++ qs) ≡ joined rs ++ joined qs
+joined-append rs qs = flat_map-append (λ (r : ReplyLine). r.text) rs qs
 
-joined-one : (t : List ℕ) → joined (t ∷ []) ≡ t
-joined-one t = append-nil t
+joined-one : (r : ReplyLine) → joined (r ∷ []) ≡ r.text
+joined-one r = append-nil r.text
 
 -- ---- the lines that were read
 
@@ -85,39 +92,53 @@ AreLines-after None b ls ms p q = tt
 AreLines-after (Some x) None ls ms p q = absurd p
 AreLines-after (Some x) (Some y) ls ms p q = p ∙ ap (λ l. ls ++ l) q
 
+-- ---- what was written
+
+-- some bytes, and then a front of others
+pub appends_then_part : (before mid after : Option (List ℕ)) (xs ys : List ℕ) → Appends before mid xs → AppendsPart mid after ys
+    → AppendsPart before after (xs ++ ys)
+appends_then_part before mid after xs ys first second = (
+  length xs + second.0,
+  subst (Appends before after) (sym (take-append-add xs ys second.0)) (Appends-trans before mid after xs (take second.0 ys) first second.1),
+)
+
+-- what was written whole is a front of itself
+pub whole_part : (before after : Option (List ℕ)) (bytes : List ℕ) → Appends before after bytes → AppendsPart before after bytes
+whole_part before after bytes written = (length bytes, subst (Appends before after) (sym (take_all (length bytes) bytes (omega arith))) written)
+
 -- ---- what was served
 
 module _ (tells : Bool) where
   -- nothing yet
   pub served_none : (s : State) (left before : Option (List ℕ)) → Served tells s s (streams left before) (streams left before)
-  served_none s left before = record { lines = []; texts = []; read = GivesLines-nil left; run = refl; written = Appends-nil before }
+  served_none s left before = record { lines = []; replies = []; read = GivesLines-nil left; run = refl; written = Appends-nil before }
 
   pub served_trans : (a b c : State) (left rest last before mid after : Option (List ℕ)) → Served tells a b (streams left before) (streams rest mid)
       → Served tells b c (streams rest mid) (streams last after) → Served tells a c (streams left before) (streams last after)
   served_trans a b c left rest last before mid after p q = record {
     lines = p.lines ++ q.lines;
-    texts = p.texts ++ q.texts;
+    replies = p.replies ++ q.replies;
     read = GivesLines-trans left rest last p.lines q.lines p.read q.read;
-    run = RunsLines-append tells a b c p.lines q.lines p.texts q.texts p.run q.run;
-    written = subst (Appends before after) (sym (joined-append p.texts q.texts)) (Appends-trans before mid after _ _ p.written q.written);
+    run = Runs-map line_read tells a b c p.lines q.lines p.replies q.replies p.run q.run;
+    written = subst (Appends before after) (sym (joined-append p.replies q.replies)) (Appends-trans before mid after _ _ p.written q.written);
   }
 
   -- a line came, and its reply was written
   pub served_one : (a b : State) (left rest before after : Option (List ℕ)) (line : List ℕ) → GivesLines left rest (line ∷ [])
-      → Replies tells a line b (Appends before after) → Served tells a b (streams left before) (streams rest after)
+      → Replies tells a (line_read line) b (λ said. Appends before after said.text) → Served tells a b (streams left before) (streams rest after)
   served_one a b left rest before after line read replied = record {
     lines = line ∷ [];
-    texts = text_of tells a b line (Appends before after) replied ∷ [];
+    replies = reply_of tells a b (line_read line) (λ said. Appends before after said.text) replied ∷ [];
     read = read;
-    run = RunsLines-one tells a b line (Appends before after) replied;
-    written = subst (Appends before after) (sym (joined-one (text_of tells a b line (Appends before after) replied))) replied.2;
+    run = Runs-one tells a b (line_read line) (λ said. Appends before after said.text) replied;
+    written = subst (Appends before after) (sym (joined-one (reply_of tells a b (line_read line) (λ said. Appends before after said.text) replied))) replied.2;
   }
 
   pub served_all : (a b : State) (left rest before after : Option (List ℕ)) → Served tells a b (streams left before) (streams rest after) → IsAtEnd rest
       → ServedAll tells a b left before after
   served_all a b left rest before after p end = record {
     lines = p.lines;
-    texts = p.texts;
+    replies = p.replies;
     read = GivesLines-all left rest p.lines p.read end;
     run = p.run;
     written = p.written;
@@ -127,10 +148,10 @@ module _ (tells : Bool) where
       → ServedAll tells b c rest mid after → ServedAll tells a c left before after
   served_then_all a b c left rest before mid after p q = record {
     lines = p.lines ++ q.lines;
-    texts = p.texts ++ q.texts;
+    replies = p.replies ++ q.replies;
     read = AreLines-after left rest p.lines q.lines p.read q.read;
-    run = RunsLines-append tells a b c p.lines q.lines p.texts q.texts p.run q.run;
-    written = subst (Appends before after) (sym (joined-append p.texts q.texts)) (Appends-trans before mid after _ _ p.written q.written);
+    run = Runs-map line_read tells a b c p.lines q.lines p.replies q.replies p.run q.run;
+    written = subst (Appends before after) (sym (joined-append p.replies q.replies)) (Appends-trans before mid after _ _ p.written q.written);
   }
 
   pub still_refl : (now : Outside) → (s : State) → s.outside ≡ now → IsStill tells s now
@@ -146,7 +167,7 @@ module _ (tells : Bool) where
   part_none s now left before after written still = record {
     last = s;
     lines = [];
-    texts = [];
+    replies = [];
     read = none_begin left;
     run = refl;
     written = (0, written);
@@ -159,15 +180,15 @@ module _ (tells : Bool) where
 
   -- a line came, and of its reply a front was written
   pub part_one : (s last : State) (now : Outside) (left rest before after : Option (List ℕ)) (line : List ℕ) → GivesLines left rest (line ∷ [])
-      → Replies tells s line last (AppendsPart before after) → IsStill tells last now
+      → Replies tells s (line_read line) last (λ said. AppendsPart before after said.text) → IsStill tells last now
       → ServedInPart tells s now left before after
   part_one s last now left rest before after line read replied still = record {
     last = last;
     lines = line ∷ [];
-    texts = text_of tells s last line (AppendsPart before after) replied ∷ [];
+    replies = reply_of tells s last (line_read line) (λ said. AppendsPart before after said.text) replied ∷ [];
     read = GivesLines-begin left rest (line ∷ []) read;
-    run = RunsLines-one tells s last line (AppendsPart before after) replied;
-    written = subst (AppendsPart before after) (sym (joined-one (text_of tells s last line (AppendsPart before after) replied))) replied.2;
+    run = Runs-one tells s last (line_read line) (λ said. AppendsPart before after said.text) replied;
+    written = subst (AppendsPart before after) (sym (joined-one (reply_of tells s last (line_read line) (λ said. AppendsPart before after said.text) replied))) replied.2;
     still = still;
   }
 
@@ -176,31 +197,9 @@ module _ (tells : Bool) where
   served_then_part a b now left rest before mid after p q = record {
     last = q.last;
     lines = p.lines ++ q.lines;
-    texts = p.texts ++ q.texts;
+    replies = p.replies ++ q.replies;
     read = LinesBegin-after left rest p.lines q.lines p.read q.read;
-    run = RunsLines-append tells a b q.last p.lines q.lines p.texts q.texts p.run q.run;
-    written =
-        let texts = joined p.texts in
-        let size = q.written.0 in
-        let both : take (length texts + size) (joined (p.texts ++ q.texts)) ≡ texts ++ take size (joined q.texts) =
-        ap (take (length texts + size)) (joined-append p.texts q.texts) ∙ take-append-add texts (joined q.texts) size in
-        (length texts + size, subst (Appends before after) (sym both) (Appends-trans before mid after _ _ p.written q.written.1));
+    run = Runs-map line_read tells a b q.last p.lines q.lines p.replies q.replies p.run q.run;
+    written = subst (AppendsPart before after) (sym (joined-append p.replies q.replies)) (appends_then_part before mid after _ _ p.written q.written);
     still = q.still;
   }
-
-  -- what was served whole is a front of itself
-  pub served_all_part : (a b : State) (left before after : Option (List ℕ)) → ServedAll tells a b left before after
-      → ServedInPart tells a b.outside left before after
-  served_all_part a b left before after p = record {
-    last = b;
-    lines = p.lines;
-    texts = p.texts;
-    read = begin left p.read;
-    run = p.run;
-    written = (length (joined p.texts), subst (Appends before after) (sym (take_all (length (joined p.texts)) (joined p.texts) (omega arith))) p.written);
-    still = still_refl b.outside b refl;
-  }
-    where
-      begin : (known : Option (List ℕ)) → AreLines known p.lines → LinesBegin known p.lines
-      begin None h = tt
-      begin (Some bytes) h = ([], h ∙ sym (append-nil p.lines))

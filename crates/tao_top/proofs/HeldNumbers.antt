@@ -4,7 +4,9 @@ use Rattle.std.proofs.Common.{inl, inr, arith}
 use Rattle.std.proofs.lemmas.Bool.{cases_Bool, cases_eq, eq-eqb, ne_eqb}
 use Rattle.std.specs.Prelude.{◌==◌, IfSome, if◌then◌else◌, is_some, not}
 use Rattle.core_model.proofs.Places.{one_some}
+use Rattle.core_model.specs.Pens.{Pens}
 use Rattle.core_plans.specs.Held.{AddsPlan, ChangesPlan, IsOver, Plans, TakesPlan, next_stage, plan_at}
+use Rattle.core_plans.specs.HeldReads.{read_has_no_room}
 use Rattle.core_plans.specs.HeldWrites.{CommitsBy, ComesOfWrite, DoesWriteStage, write_is_down}
 use Rattle.core_plans.specs.LedBy.{Rules}
 use Rattle.core_plans.specs.Needs.{leaders_of_write}
@@ -15,7 +17,7 @@ use Rattle.core_sessions.specs.Sessions.{Session}
 use Rattle.core_steps.specs.World.{World}
 use Rattle.promise_kept.proofs.HealthLines.{health_so}
 use Rattle.promise_kept.proofs.ReadLemmas.{IsReadReply, read_reply_is}
-use Rattle.promise_kept.proofs.Refusing.{stage_refuses}
+use Rattle.promise_kept.proofs.Refusing.{end_refuses, stage_refuses}
 use Rattle.promise_kept.proofs.Settled.{unsettled_keeps}
 use Rattle.promise_kept.proofs.WritesOn.{refused_rests}
 use Rattle.replies.specs.declared.nodes.NodeReply.TheVariants.{Link}
@@ -255,10 +257,13 @@ module _ (rules : Rules) (old new : World) where
       written_ends q.refused q.committed q.job q.hops reply (came_refusal p q steps) over
   over_ends (of.Read p) (of.Write q) reply (inl steps) over = absurd steps
   over_ends (of.Write p) (of.Read q) reply (inl steps) over = absurd steps
-  over_ends (of.Read p) after reply (inr ends) over = (let e : false ≡ true = ends.last in absurd (cc))
-  over_ends (of.Write p) after reply (inr ends) over =
-      let given = subst (λ (plan : HeldPlan). IsOver plan reply) ends.then over in
+  over_ends (of.Read p) (of.Read q) reply (inr without) over =
+      read_ends reply (read_reply_is q reply (end_refuses read_has_no_room p q old new without.gives (_, refl)) over)
+  over_ends (of.Write p) (of.Write q) reply (inr without) over =
+      let given = subst (λ (w : Writing). IsOver (of.Write w) reply) without.gives.0 over in
       sym (ap says_next (one_some _ reply given))
+  over_ends (of.Read p) (of.Write q) reply (inr without) over = absurd without.gives
+  over_ends (of.Write p) (of.Read q) reply (inr without) over = absurd without.gives
 
 -- ---- each line
 
@@ -270,13 +275,13 @@ module _ (old new : Moment) (held : List ℕ) (are : ArePlans held old.core.plan
   same is = subst (ArePlans held) (sym is) are
 
   -- a plan is held on where the reply says so
-  leaves_on : (asked : PlanWord) (by : NumberedPlan) (next : Option Stage) (was : List ℕ) (plans : Plans) (reply : Reply) → ArePlans was plans
+  leaves_on : (asked : PlanWord) (by : NumberedPlan) (next : Option Stage) (was : List ℕ) (plans : Plans) (pens : Pens) (reply : Reply) → ArePlans was plans
       → has_number was by.number ≡ true → ((ended : Reply) → IsOver by.plan ended → says_next ended ≡ false)
-      → Leaves asked by next (held_seen plans old.core.sessions) reply (held_in new.core) → Now (if says_next reply then was else without by.number was)
-  leaves_on asked by (Some stage) was plans reply they there over goes =
+      → Leaves asked by next (held_seen plans old.core.sessions pens) reply (held_in new.core) → Now (if says_next reply then was else without by.number was)
+  leaves_on asked by (Some stage) was plans pens reply they there over goes =
       subst (λ b. Now (if b then was else without by.number was)) (sym (ap says_next goes.told))
       (one_changed by.number was plans new.core.plans they by.plan there goes.changes)
-  leaves_on asked by None was plans reply they there over ends =
+  leaves_on asked by None was plans pens reply they there over ends =
       let none = ap says_next ends.told ∙ numbered_ends by.number ends.ended (over ends.ended ends.over) in
       subst (λ b. Now (if b then was else without by.number was)) (sym none) (one_less by.number was plans new.core.plans they there ends.takes)
 
@@ -293,14 +298,14 @@ module _ (old new : Moment) (held : List ℕ) (are : ArePlans held old.core.plan
       let more = one_more number held old.core.plans goes.added are goes.plan free goes.adds in
       let there = there_at number (number ∷ held) goes.added new.core.plans more steps.before steps.stands in
       subst (λ xs. Now (if says_next reply then number ∷ held else xs)) (without_first number held free)
-      (leaves_on word.Hold (numbered_plan number steps.after) (next_stage steps.after) (number ∷ held) goes.added reply more there
+      (leaves_on word.Hold (numbered_plan number steps.after) (next_stage steps.after) (number ∷ held) goes.added _ reply more there
       (λ ended over. over_ends _ _ _ steps.before steps.after ended steps.steps over) steps.leaves)
   after_plan (Hold number call) reply can (inr refuses) =
       subst (λ b. Now (if b then number ∷ held else held)) (sym (unbegun_ends old.core.states old.core.sessions call reply refuses.refused))
       (same (ap (λ (m : Moment). m.core.plans) refuses.same))
   after_plan (Advance number) reply can steps =
       let there = there_at number held old.core.plans new.core.plans are steps.before steps.stands in
-      leaves_on word.Advance (numbered_plan number steps.after) (next_stage steps.after) held old.core.plans reply are there
+      leaves_on word.Advance (numbered_plan number steps.after) (next_stage steps.after) held old.core.plans _ reply are there
       (λ ended over. over_ends _ _ _ steps.before steps.after ended steps.steps over) steps.leaves
 
   after_call : (asked : CheckedCall) (reply : Reply) → AnswersCall true asked old reply new → Now held

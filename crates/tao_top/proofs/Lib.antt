@@ -1,9 +1,12 @@
+pub mod AcrossRuns
+pub mod Answering
 pub mod Complete
 pub mod Configured
 pub mod FirstLine
 pub mod GoingOn
 pub mod Growing
 pub mod Keeping
+pub mod MakingLemmas
 pub mod OneLine
 pub mod Opened
 pub mod HeldNumbers

@@ -21,7 +21,7 @@ use Rattle.tao_top.proofs.GoingOn.{part_none, part_one, served_one, still_refl}
 use Rattle.tao_top.specs.Begun.{RepliesInPart}
 use Rattle.core_nodes.specs.Outside.{Outside}
 use Rattle.tao_top.specs.Served.{AppendsPart, Served, ServedInPart, serves, streams}
-use Rattle.tao_top.specs.Step.{AnswersLine, State, Replies, Step, reply_line, serving}
+use Rattle.tao_top.specs.Step.{AnswersLine, Given, State, Replies, Step, line_read, reply_line, serving}
 
 -- what holds, holds where there was an error
 pub OnErr-any : {T E : Type 0} (result : Result T E) (P : Type 0) → P → OnErr result P
@@ -48,7 +48,7 @@ abbrev pub refused_whole : Reply
 refused_whole = Refused (OfLine (line.BadLine []))
 
 module _ (tells : Bool) (core : CoreState) (around : Outside) where
-  long_line : (line : List ℕ) → IsTooLong line → Step tells (serves core around) line refused_whole (serves core around)
+  long_line : (line : List ℕ) → IsTooLong line → Step tells (serves core around) (line_read line) refused_whole (serves core around)
   long_line line long = record {
     does = subst (λ asked. AnswersLine tells (moment_of core around) asked refused_whole (moment_of core around)) (sym (no_request line long)) (refl, refl);
     later = record { calls = omega arith; faults = omega arith };
@@ -72,35 +72,35 @@ part_unread tells s left before = part_none tells s s.outside left before before
 
 -- ---- what was answered
 
-pub replies_ok : {T E : Type 0} (result : Result T E) (tells : Bool) (old new : State) (line : List ℕ) (reply : Reply) (before after : Option (List ℕ))
-    → Step tells old line reply new
-    → OnOk result (Appends before after (reply_line new.stage reply)) → OnOk result (Replies tells old line new (Appends before after))
-replies_ok (Ok x) tells old new line reply before after step written = (reply, step, written)
-replies_ok (Err e) tells old new line reply before after step written = tt
+pub replies_ok : {T E : Type 0} (result : Result T E) (tells : Bool) (old new : State) (given : Given) (reply : Reply) (before after : Option (List ℕ))
+    → Step tells old given reply new
+    → OnOk result (Appends before after (reply_line new.stage reply)) → OnOk result (Replies tells old given new (λ said. Appends before after said.text))
+replies_ok (Ok x) tells old new given reply before after step written = (reply, step, written)
+replies_ok (Err e) tells old new given reply before after step written = tt
 
-pub replies_err : {T E : Type 0} (result : Result T E) (tells : Bool) (old new : State) (line : List ℕ) (reply : Reply) (before after : Option (List ℕ))
-    → Step tells old line reply new
-    → OnErr result (AppendsPart before after (reply_line new.stage reply)) → OnErr result (RepliesInPart tells old line new before after)
-replies_err (Ok x) tells old new line reply before after step written = tt
-replies_err (Err e) tells old new line reply before after step written = inr (reply, step, written)
+pub replies_err : {T E : Type 0} (result : Result T E) (tells : Bool) (old new : State) (given : Given) (reply : Reply) (before after : Option (List ℕ))
+    → Step tells old given reply new
+    → OnErr result (AppendsPart before after (reply_line new.stage reply)) → OnErr result (RepliesInPart tells old given new before after)
+replies_err (Ok x) tells old new given reply before after step written = tt
+replies_err (Err e) tells old new given reply before after step written = inr (reply, step, written)
 
 module _ (tells : Bool) (core : CoreState) (around : Outside) (left rest before after : Option (List ℕ)) where
   -- a line was answered, and perhaps of its reply a front was written
   pub part_answered : (line said : List ℕ) (next : CoreState) (now : Outside) → GivesLines left rest (line ∷ []) → said ≡ line
-      → RepliesInPart tells (serves core around) said (serves next now) before after → ServedInPart tells (serves core around) now left before after
+      → RepliesInPart tells (serves core around) (line_read said) (serves next now) before after → ServedInPart tells (serves core around) now left before after
   part_answered line said next now read same (inl nothing) =
       part_none tells (serves core around) now left before after nothing.1 (still_refl tells now (serves core around) (ap (λ s. s.outside) (sym nothing.0)))
   part_answered line said next now read same (inr replied) =
       part_one tells (serves core around) (serves next now) now left rest before after line read
-      (subst (λ l. Replies tells (serves core around) l (serves next now) (AppendsPart before after)) same replied)
+      (subst (λ l. Replies tells (serves core around) (line_read l) (serves next now) (λ reply. AppendsPart before after reply.text)) same replied)
       (still_refl tells now (serves next now) refl)
 
   pub served_answered : (line said : List ℕ) (next : CoreState) (now : Outside) → GivesLines left rest (line ∷ []) → said ≡ line
-      → Replies tells (serves core around) said (serves next now) (Appends before after)
+      → Replies tells (serves core around) (line_read said) (serves next now) (λ reply. Appends before after reply.text)
       → Served tells (serves core around) (serves next now) (streams left before) (streams rest after)
   served_answered line said next now read same replied =
       served_one tells (serves core around) (serves next now) left rest before after line read
-      (subst (λ l. Replies tells (serves core around) l (serves next now) (Appends before after)) same replied)
+      (subst (λ l. Replies tells (serves core around) (line_read l) (serves next now) (λ reply. Appends before after reply.text)) same replied)
 
   -- a line was too long
   pub part_refused : ((whole : List ℕ) × IsTooLong whole × GivesLines left rest (whole ∷ []))

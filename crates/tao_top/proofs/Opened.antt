@@ -5,6 +5,7 @@ use Rattle.std.proofs.lemmas.Bool.{cases_Bool, cases_lt, le-ltb, lt-ltb}
 use Rattle.std.proofs.lemmas.Bool.Decides.{nat_tests}
 use Rattle.std.proofs.lemmas.List.{length-map}
 use Rattle.std.specs.Prelude.{◌==◌, filter, if◌then◌else◌, nat_lt}
+use Rattle.core_model.specs.Pens.{Pens, pens_of}
 use Rattle.core_plans.specs.Held.{Plans, learnt_with, next_stage}
 use Rattle.core_plans.specs.declared.held.HeldPlan.{HeldPlan}
 use Rattle.core_plans.specs.declared.held.HeldPlan.TheVariants as of
@@ -14,11 +15,12 @@ use Rattle.core_sessions.specs.declared.sessions.OpenSession.{OpenSession}
 use Rattle.core_steps.specs.declared.jobs.LearntEntry.{LearntEntry}
 use Rattle.promise_kept.proofs.HealthLines.{health_so}
 use Rattle.promise_kept.proofs.Settled.{unsettled_keeps}
+use Rattle.replies.specs.declared.calls.CallReply.TheVariants as called
 use Rattle.replies.specs.declared.plans.Stage.{Stage}
 use Rattle.replies.specs.declared.nodes.NodeReply.TheVariants.{Link}
 use Rattle.replies.specs.declared.refusals.Refusal.TheVariants.{Memory}
 use Rattle.replies.specs.declared.reply.Reply.{Reply}
-use Rattle.replies.specs.declared.reply.Reply.TheVariants.{Node, Opened, Refused, Settled}
+use Rattle.replies.specs.declared.reply.Reply.TheVariants.{Called, Node, Opened, Refused, Settled}
 use Rattle.request_check.specs.declared.caches.CheckedCache.{CheckedCache}
 use Rattle.request_check.specs.declared.caches.CheckedCache.TheVariants as cache
 use Rattle.request_check.specs.declared.checked.Checked.{Checked}
@@ -31,10 +33,12 @@ use Rattle.request_check.specs.declared.plans.CheckedPlan.{CheckedPlan}
 use Rattle.request_check.specs.declared.plans.CheckedPlan.TheVariants.{Advance, Hold}
 use Rattle.request_check.specs.declared.stores.CheckedStore.{CheckedStore}
 use Rattle.request_check.specs.declared.stores.CheckedStore.TheVariants as stores
+use Rattle.tao_base.specs.Queries.{query_key}
+use Rattle.tao_base.specs.declared.id.Key.{Key}
 use Rattle.tao_core.proofs.HeldLearning.{learns_open}
 use Rattle.tao_core.specs.Asked.{CanBeDone}
-use Rattle.tao_core.specs.Calls.{LearnsThrough}
-use Rattle.tao_core.specs.Core.{CoreState, Moment}
+use Rattle.tao_core.specs.Calls.{LearnsAnswer, LearnsBoth, LearnsThrough, LearnsVersion}
+use Rattle.tao_core.specs.Core.{CoreState, Moment, author}
 use Rattle.tao_core.specs.HeldCalls.{AnswersCall, AnswersPlan, Leaves, LearnsOf, NumberedPlan, held_in, held_seen, numbered_plan}
 use Rattle.tao_core.specs.CacheReplies.{AnswersCache}
 use Rattle.tao_core.specs.LinkReplies.{AnswersLink, AnswersSwitch}
@@ -139,10 +143,23 @@ through_long number None old new learns = ap length learns
 through_long number (Some t) old new learns =
     ap length learns.is ∙ length-map old (λ s. if s.session == learns.to.session then learns.to else s)
 
-learns_long : (plan : HeldPlan) (told : LearntEntries) (old new : List Session) → LearnsOf plan told old new → length new ≡ length old
-learns_long (of.Read p) told old new learns = ap length learns
-learns_long (of.Write p) told old new learns =
-    through_long _ told.other learns.between new learns.other ∙ through_long _ told.here old learns.between learns.here
+both_long : (number : ℕ) (told : LearntEntries) (old new : List Session) → LearnsBoth number told old new → length new ≡ length old
+both_long number told old new learns =
+    through_long number told.other learns.between new learns.other ∙ through_long number told.here old learns.between learns.here
+
+version_long : (pens : Pens) (reader : Option ℕ) (key : Key) (at : ℕ) (old new : List Session) → LearnsVersion pens reader key at old new
+    → length new ≡ length old
+version_long pens None key at old new learns = ap length learns
+version_long pens (Some number) key at old new learns =
+    ap length learns.is ∙ length-map old (λ s. if s.session == learns.to.session then learns.to else s)
+
+learns_long : (pens : Pens) (plan : HeldPlan) (ended : Reply) (old new : List Session) → LearnsOf pens plan ended old new → length new ≡ length old
+learns_long pens (of.Read p) ended old new learns = by ended learns
+  where
+    by : (reply : Reply) → LearnsAnswer pens p reply old new → length new ≡ length old
+    by (Called (called.Read reply)) learns = version_long pens p.reader (query_key p.query) reply.version old new learns
+    by reply learns = ap length learns
+learns_long pens (of.Write p) ended old new learns = both_long (author p.origin) (learnt_with ended (of.Write p)) old new learns
 
 -- ---- each line
 
@@ -153,10 +170,13 @@ module _ (old new : Moment) (opened : List ℕ) (are : AreSessions opened old.co
   same : new.core.sessions ≡ old.core.sessions → Now opened
   same is = subst (AreSessions opened) (sym is) are
 
-  learnt_on : (plan : HeldPlan) (told : LearntEntries) → LearnsOf plan told old.core.sessions new.core.sessions → Now opened
-  learnt_on plan told learns = record {
-    numbers = λ n. learns_open plan told old.core.sessions new.core.sessions learns n ∙ are.numbers n;
-    count = learns_long plan told old.core.sessions new.core.sessions learns ∙ are.count;
+  abbrev pens : Pens
+  pens = pens_of new.core.fleet.stores
+
+  learnt_on : (plan : HeldPlan) (ended : Reply) → LearnsOf pens plan ended old.core.sessions new.core.sessions → Now opened
+  learnt_on plan ended learns = record {
+    numbers = λ n. learns_open pens plan ended old.core.sessions new.core.sessions learns n ∙ are.numbers n;
+    count = learns_long pens plan ended old.core.sessions new.core.sessions learns ∙ are.count;
   }
 
   after_open : (session region tier : ℕ) (reply : Reply) → is_open old.core.sessions session ≡ false
@@ -173,26 +193,26 @@ module _ (old new : Moment) (opened : List ℕ) (are : AreSessions opened old.co
   after_open session region tier reply closed answers = absurd answers
 
   after_call : (asked : CheckedCall) (reply : Reply) → AnswersCall true asked old reply new → Now opened
-  after_call asked reply (inl goes) = learnt_on goes.does.after (learnt_with reply goes.does.after) goes.does.learns
+  after_call asked reply (inl goes) = learnt_on goes.does.after reply goes.does.learns
   after_call asked reply (inr refuses) = same (ap (λ (m : Moment). m.core.sessions) refuses.same)
 
-  leaves_on : (asked : PlanWord) (by : NumberedPlan) (next : Option Stage) (plans : Plans) (reply : Reply)
-      → Leaves asked by next (held_seen plans old.core.sessions) reply (held_in new.core) → Now opened
-  leaves_on asked by (Some stage) plans reply goes = same goes.sessions
-  leaves_on asked by None plans reply ends = learnt_on by.plan (learnt_with ends.ended by.plan) ends.learns
+  leaves_on : (asked : PlanWord) (by : NumberedPlan) (next : Option Stage) (plans : Plans) (before : Pens) (reply : Reply)
+      → Leaves asked by next (held_seen plans old.core.sessions before) reply (held_in new.core) → Now opened
+  leaves_on asked by (Some stage) plans before reply goes = same goes.sessions
+  leaves_on asked by None plans before reply ends = learnt_on by.plan ends.ended ends.learns
 
   after_plan : (asked : CheckedPlan) (reply : Reply) → AnswersPlan true asked old reply new → Now opened
   after_plan (Hold number call) reply (inl goes) =
-      leaves_on word.Hold (numbered_plan number goes.steps.after) (next_stage goes.steps.after) goes.added reply goes.steps.leaves
+      leaves_on word.Hold (numbered_plan number goes.steps.after) (next_stage goes.steps.after) goes.added _ reply goes.steps.leaves
   after_plan (Hold number call) reply (inr refuses) = same (ap (λ (m : Moment). m.core.sessions) refuses.same)
   after_plan (Advance number) reply steps =
-      leaves_on word.Advance (numbered_plan number steps.after) (next_stage steps.after) old.core.plans reply steps.leaves
+      leaves_on word.Advance (numbered_plan number steps.after) (next_stage steps.after) old.core.plans _ reply steps.leaves
 
   after_cache : (asked : CheckedCache) (reply : Reply) → AnswersCache true asked old reply new → Now opened
   after_cache (cache.Deliver node message) reply answers = same (ap (λ (m : Moment). m.core.sessions) answers.1)
   after_cache (cache.Again node message) reply answers = same (ap (λ (m : Moment). m.core.sessions) answers.1)
   after_cache (cache.Drop node message) reply answers = same (ap (λ (m : Moment). m.core.sessions) answers.1)
-  after_cache (cache.Refill node) reply (inl goes) = learnt_on goes.does.after (learnt_with goes.read goes.does.after) goes.does.learns
+  after_cache (cache.Refill node) reply (inl goes) = learnt_on goes.does.after goes.read goes.does.learns
   after_cache (cache.Refill node) reply (inr none) = same (ap (λ (m : Moment). m.core.sessions) none.same)
   after_cache (cache.Evict node key) reply answers = same (ap (λ (m : Moment). m.core.sessions) answers.1)
   after_cache (cache.Show node key) reply answers = same (ap (λ (m : Moment). m.core.sessions) answers.1)

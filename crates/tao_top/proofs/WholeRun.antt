@@ -1,9 +1,12 @@
 -- A whole run: its first line, and then all others.
-use Rattle.std.proofs.Common.{◌≡◌, ℕ, ◌+◌, ◌<◌, ◌≤◌, ◌^◌, Bool, List, [], ◌∷◌, length, length-append, Option, Some, None, Ok, IfSome, inr, refl, sym}
+use Rattle.std.proofs.Common.{◌≡◌, ℕ, ◌+◌, ◌<◌, ◌≤◌, ◌^◌, Bool, List, [], ◌∷◌, length, length-append, Option, Some, None, Result, Ok, IfSome, inr, refl, sym}
 use Rattle.std.proofs.Common.{ap, subst, ◌∙◌, arith}
 use Rattle.std.proofs.KnownBytes.{Consumes-nil, prepend_known-nil}
 use Rattle.std.proofs.lemmas.List.{nil_from_length}
 use Rattle.std.specs.Io.KnownBytes.{Appends, IsAtEnd, prepend_known}
+use Rattle.command_words.specs.declared.Words.{Words}
+use Rattle.command_words.specs.declared.Words.TheVariants.{Gen, Run}
+use Rattle.command_words.specs.declared.WordsRefusal.{WordsRefusal}
 use Rattle.counts.proofs.Rises.{Rose-earlier}
 use Rattle.config_json.specs.Config.{config_in}
 use Rattle.graph_model.specs.Told.{WhereTold}
@@ -12,16 +15,16 @@ use Rattle.core_nodes.specs.Opening.{MayOpen}
 use Rattle.tao_io.specs.LineReader.{LineReading, most_ahead, to_come}
 use Rattle.tao_io.specs.Lines.{CountsTaken, GivesLines}
 use Rattle.tao_keeper.specs.Table.{Tables}
-use Rattle.tao_top.proofs.FirstLine.{begun, begun_part, refuses_line, stops_opening, stores_disagree}
-use Rattle.tao_top.proofs.GoingOn.{GivesLines-begin, served_then_all, served_then_part, served_all_part}
-use Rattle.tao_top.specs.Begun.{EndsAtFirst, GivesOne, RefusesFirst, RefusesLine, ConfiguredInPart, TellsDisagreement}
+use Rattle.tao_top.proofs.Answering.{answered_whole}
+use Rattle.tao_top.proofs.FirstLine.{begun_part, refuses_line, stops_opening, stores_disagree}
+use Rattle.tao_top.proofs.GoingOn.{GivesLines-begin}
+use Rattle.tao_top.specs.Begun.{Begins, EndsAtFirst, GivesOne, RefusesFirst, RefusesLine, RepliesFirst, ConfiguredInPart, TellsDisagreement}
 use Rattle.tao_top.specs.Kept.{MayRun}
 use Rattle.core_nodes.specs.Outside.{Outside}
-use Rattle.tao_top.specs.Served.{Done, DoneInPart, EndsInPart, FailsOpening, LinesBegin, OpensInPart, RefusesConfiguration, Served, ServedAll, AtOpeningOrLater}
-use Rattle.tao_top.specs.Served.{ServedInPart, StopsOpening, StoresDisagree, serves, start, streams}
-use Rattle.tao_top.specs.Step.{Replies}
-use Rattle.tao_top.specs.Stop.{Faults, FaultsGrow, InterruptHasCause, StopHasCause, stop_code}
-use Rattle.tao_top.specs.Taken.{Takes, TakesFirst}
+use Rattle.tao_top.specs.Served.{AppendsPart, AtOpeningOrLater, Done, DoneInPart, EndsInPart, FailsOpening, LinesBegin, OpensInPart, RefusesConfiguration}
+use Rattle.tao_top.specs.Served.{StopsOpening, StoresDisagree, ends_with, serves, start, streams}
+use Rattle.tao_top.specs.Stop.{Faults, FaultsGrow, InterruptHasCause, InterruptsWriting, StopHasCause, stop_code}
+use Rattle.tao_top.specs.Taken.{Takes, TakesAll, TakesAsked, TakesFirst}
 use Rattle.tao_top.specs.declared.stop.Interrupt.{Interrupt}
 use Rattle.tao_top.specs.declared.stop.Interrupt.TheVariants.{Source, Sink, Memory, InputTooLong}
 use Rattle.tao_top.specs.declared.stop.Stop.{Stop}
@@ -35,8 +38,8 @@ fresh reader left none = ap (λ ahead. prepend_known ahead left) none ∙ prepen
 -- ---- the first line
 
 module _ (tells : Bool) (around : Outside) (known left before after : Option (List ℕ)) (is : known ≡ left) where
-  pub first_in_part : EndsAtFirst known before after → DoneInPart tells around around left before after
-  first_in_part ends = subst (λ l. DoneInPart tells around around l before after) is (ends tells around)
+  pub first_in_part : (words : Words) → EndsAtFirst known before after → DoneInPart (Ok words) tells around around (streams left before) after
+  first_in_part words ends = subst (λ l. DoneInPart (Ok words) tells around around (streams l before) after) is (ends words tells around)
 
   pub first_refused : RefusesFirst known before after → RefusesConfiguration tells around around left before after
   first_refused refuses = subst (λ l. RefusesConfiguration tells around around l before after) is (refuses tells around)
@@ -44,11 +47,13 @@ module _ (tells : Bool) (around : Outside) (known left before after : Option (Li
 -- it was read, and nothing was written until its reply
 module _ (tells : Bool) (old mid : Outside) (known left rest before silent after : Option (List ℕ)) (line : List ℕ) (is : known ≡ left) (same : silent ≡ before)
     (read : GivesLines known rest (line ∷ [])) where
-  pub begun_in_part : (code : ℕ) → AtOpeningOrLater code (OpensInPart tells old mid line silent after) (ConfiguredInPart tells old mid line silent after)
-      → EndsInPart code tells old mid (streams left before) after
-  begun_in_part code part =
-      subst (λ l. EndsInPart code tells old mid (streams l before) after) is
-      (subst (λ w. EndsInPart code tells old mid (streams known w) after) same (begun_part tells old mid known rest silent after line read code part))
+  pub begun_in_part : (words : Words) (code : ℕ)
+      → AtOpeningOrLater code (OpensInPart tells old mid line silent after) (ConfiguredInPart words tells old mid line (AppendsPart silent after))
+      → EndsInPart (ends_with code (Ok words)) tells old mid (streams left before) after
+  begun_in_part words code part =
+      let ending = ends_with code (Ok words) in
+      subst (λ l. EndsInPart ending tells old mid (streams l before) after) is
+      (subst (λ w. EndsInPart ending tells old mid (streams known w) after) same (begun_part tells old mid known rest silent after line read words code part))
 
   pub begun_opening : OpensInPart tells old mid line silent after → StopsOpening tells old mid left before after
   begun_opening opens =
@@ -63,27 +68,20 @@ module _ (tells : Bool) (old mid : Outside) (known left rest before silent after
   begun_disagree tell = subst (λ l. StoresDisagree tells old mid l before after) is
       (subst (λ w. StoresDisagree tells old mid known w after) same (stores_disagree tells old mid known rest silent after line read tell))
 
-  pub begun_well : (core : CoreState) → Replies tells (start old) line (serves core mid) (Appends silent after)
-      → Served tells (start old) (serves core mid) (streams left before) (streams rest after)
-  begun_well core replied =
-      subst (λ l. Served tells (start old) (serves core mid) (streams l before) (streams rest after)) is
-      (subst (λ w. Served tells (start old) (serves core mid) (streams known w) (streams rest after)) same
-      (begun tells old mid known rest silent after line read core replied))
+  pub begun_well : (words : Words) (core : CoreState) → RepliesFirst words tells (start old) line (serves core mid) (Appends silent after)
+      → Begins words tells old (serves core mid) (streams left before) (streams rest after)
+  begun_well words core replied = record {
+    line = line;
+    read = subst (λ l. GivesLines l rest (line ∷ [])) is read;
+    replied = subst (λ w. RepliesFirst words tells (start old) line (serves core mid) (Appends w after)) same replied;
+  }
 
--- ---- all others
-
-module _ (tells : Bool) (old mid now : Outside) (core : CoreState) (left rest before middle after : Option (List ℕ))
-    (first : Served tells (start old) (serves core mid) (streams left before) (streams rest middle)) where
-  pub done : (next : CoreState) → ServedAll tells (serves core mid) (serves next now) rest middle after → Done tells old now left before after
-  done next all = record { core = next; served = served_then_all tells (start old) (serves core mid) (serves next now) left rest before middle after first all }
-
-  pub done_part : ServedInPart tells (serves core mid) now rest middle after → DoneInPart tells old now left before after
-  done_part part = inr (served_then_part tells (start old) (serves core mid) now left rest before middle after first part)
+-- ---- what is done
 
 -- what is done whole is done in part
-pub done_whole : (tells : Bool) (old now : Outside) (left before after : Option (List ℕ)) → Done tells old now left before after
-    → DoneInPart tells old now left before after
-done_whole tells old now left before after d = inr (served_all_part tells (start old) (serves d.core now) left before after d.served)
+pub done_whole : (asked : Result Words WordsRefusal) (tells : Bool) (old now : Outside) (left before after : Option (List ℕ))
+    → Done asked tells old now (streams left before) after → DoneInPart asked tells old now (streams left before) after
+done_whole asked tells old now left before after d = inr (answered_whole asked tells (start old) (serves d.core now) left before after d.answered)
 
 -- ---- the cause of a stop
 
@@ -93,6 +91,13 @@ interrupt_later old mid new Source grew cause = Rose-earlier old.source mid.sour
 interrupt_later old mid new Sink grew cause = Rose-earlier old.sink mid.sink new.sink grew.sink cause
 interrupt_later old mid new Memory grew cause = tt
 interrupt_later old mid new InputTooLong grew cause = tt
+
+-- so does what interrupts the writing of a line
+pub interrupt_writing : (old new : Faults) (mid : ℕ) (i : Interrupt) → old.sink ≤ mid → InterruptsWriting mid new.sink i → InterruptHasCause old new i
+interrupt_writing old new mid Source grew cause = absurd cause
+interrupt_writing old new mid Sink grew cause = Rose-earlier old.sink mid new.sink grew cause
+interrupt_writing old new mid Memory grew cause = tt
+interrupt_writing old new mid InputTooLong grew cause = absurd cause
 
 -- ---- how long the input is, by what was taken of it
 
@@ -132,6 +137,15 @@ pub takes_first : (known left rest : Option (List ℕ)) (ahead : List ℕ) → k
     → TakesFirst left rest
 takes_first known left rest ahead is near one =
     subst (λ l. TakesFirst l rest) is (record { lines = one.0; past = ahead; read = one.2; one = one.1; short = near })
+
+-- what the words ask for was taken
+pub takes_run : (words : Words) (sql : Option (List ℕ)) (before after : Option (List ℕ)) → words ≡ Run sql → TakesAll before after
+    → TakesAsked (Ok words) before after
+takes_run words sql before after is all = subst (λ w. TakesAsked (Ok w) before after) (sym is) all
+
+pub takes_gen : (words : Words) (seed calls : ℕ) (before after : Option (List ℕ)) → words ≡ Gen seed calls → TakesFirst before after
+    → TakesAsked (Ok words) before after
+takes_gen words seed calls before after is first = subst (λ w. TakesAsked (Ok w) before after) (sym is) first
 
 -- ---- the first line may be opened
 

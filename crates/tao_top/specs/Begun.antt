@@ -1,14 +1,15 @@
 -- The parts of a run: its first line, as it was read and taken, and each later one.
-use Rattle.std.specs.Prelude.{◌≡◌, ◌⊎◌, ◌≤◌, ℕ, Bool, List, [], length, Option, Err}
+use Rattle.std.specs.Prelude.{◌≡◌, ◌⊎◌, ◌≤◌, ℕ, Bool, List, [], ◌∷◌, length, Option, Ok, Err}
 use Rattle.std.specs.Io.KnownBytes.{Appends}
 use Rattle.config_json.specs.Config.{config_in}
 use Rattle.config_json.specs.declared.refusal.ConfigRefusal.TheVariants.{BadConfig}
 use Rattle.counts.specs.Count.{Rose}
 use Rattle.replies.specs.declared.reply.Reply.TheVariants.{BadConfiguration}
 use Rattle.tao_io.specs.Lines.{GivesLines}
+use Rattle.command_words.specs.declared.Words.{Words}
 use Rattle.core_nodes.specs.Outside.{Outside}
-use Rattle.tao_top.specs.Served.{AppendsPart, DoneInPart, IsStill, RefusesConfiguration, disagreement_line, refusal_line, start}
-use Rattle.tao_top.specs.Step.{State, ended, Configures, Disagreement, FindsDisagreement, Replies}
+use Rattle.tao_top.specs.Served.{AppendsPart, DoneInPart, IsStill, Streams, RefusesConfiguration, disagreement_line, printed, refusal_line, start, streams}
+use Rattle.tao_top.specs.Step.{Given, State, ended, line_read, Configures, Disagreement, FindsDisagreement, Replies}
 use Rattle.tao_top.specs.Stop.{InterruptsWriting}
 use Rattle.tao_top.specs.declared.stop.Stop.{Stop}
 use Rattle.tao_top.specs.declared.stop.Stop.TheVariants as stop
@@ -21,9 +22,9 @@ RefusesFor line Writes = (field : List ℕ) × (config_in line ≡ Err (BadConfi
 abbrev pub RefusesInPart : List ℕ → Option (List ℕ) → Option (List ℕ) → Type 0
 RefusesInPart line before after = Appends before after [] ⊎ RefusesFor line (AppendsPart before after)
 
--- whatever keepers and a link show, they are left alone, and the run is done in part
+-- whatever the words are, and whatever keepers and a link show, these are left alone, and the run is done in part
 abbrev pub EndsAtFirst : Option (List ℕ) → Option (List ℕ) → Option (List ℕ) → Type 0
-EndsAtFirst left before after = (tells : Bool) (around : Outside) → DoneInPart tells around around left before after
+EndsAtFirst left before after = (words : Words) (tells : Bool) (around : Outside) → DoneInPart (Ok words) tells around around (streams left before) after
 
 -- whatever keepers and a link show, they are left alone, and the first line is refused, since it is no configuration
 abbrev pub RefusesFirst : Option (List ℕ) → Option (List ℕ) → Option (List ℕ) → Type 0
@@ -33,9 +34,20 @@ RefusesFirst left before after = (tells : Bool) (around : Outside) → RefusesCo
 abbrev pub GivesOne : Option (List ℕ) → Option (List ℕ) → Type 0
 GivesOne left rest = (lines : List (List ℕ)) × (length lines ≤ 1) × GivesLines left rest lines
 
--- the configuration got a reply of which a front was written, and since then no table changed
-abbrev pub ConfiguredInPart : Bool → Outside → Outside → List ℕ → Option (List ℕ) → Option (List ℕ) → Type 0
-ConfiguredInPart tells old now line before after = (last : State) × Replies tells (start old) line last (AppendsPart before after) × IsStill tells last now
+-- the first line has a reply, and what is printed of that is written so
+abbrev pub RepliesFirst : Words → Bool → State → List ℕ → State → (List ℕ → Type 0) → Type 0
+RepliesFirst words tells old line new Writes =
+    Replies tells old (line_read line) new (λ said. Writes (printed (Ok words) (line_read line ∷ []) (said ∷ [])))
+
+-- the first line came out of the known bytes and has a reply, and what is printed of that was written
+pub record Begins (words : Words) (tells : Bool) (old : Outside) (new : State) (before after : Streams) : Type 0 where
+  pub line : List ℕ
+  pub read : GivesLines before.left after.left (line ∷ [])
+  pub replied : RepliesFirst words tells (start old) line new (Appends before.written after.written)
+
+-- the configuration got a reply, what is printed of that was written so, and since then no table changed
+abbrev pub ConfiguredInPart : Words → Bool → Outside → Outside → List ℕ → (List ℕ → Type 0) → Type 0
+ConfiguredInPart words tells old now line Writes = (last : State) × RepliesFirst words tells (start old) line last Writes × IsStill tells last now
 
 -- the line was refused as the configuration, and the line that says so was written
 pub record RefusesLine (tells : Bool) (old now : Outside) (line : List ℕ) (before after : Option (List ℕ)) : Type 0 where
@@ -49,9 +61,9 @@ pub record TellsDisagreement (tells : Bool) (old now : Outside) (line : List ℕ
   pub disagree : FindsDisagreement tells old line found now
   pub written : Appends before after (disagreement_line found)
 
--- a line got no reply and changed nothing, or got one of which a front was written
-abbrev pub RepliesInPart : Bool → State → List ℕ → State → Option (List ℕ) → Option (List ℕ) → Type 0
-RepliesInPart tells old line new before after = ((new ≡ old) × Appends before after []) ⊎ Replies tells old line new (AppendsPart before after)
+-- the given got no reply and changed nothing, or got one of which a front was written
+abbrev pub RepliesInPart : Bool → State → Given → State → Option (List ℕ) → Option (List ℕ) → Type 0
+RepliesInPart tells old given new before after = ((new ≡ old) × Appends before after []) ⊎ Replies tells old given new (λ said. AppendsPart before after said.text)
 
 -- what stops a run at its configuration, once that was read
 abbrev pub StopsBeginning : ℕ → ℕ → ℕ → ℕ → Stop → Type 0

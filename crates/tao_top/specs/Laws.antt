@@ -1,7 +1,7 @@
 -- What holds at each state of a run.
-use Rattle.std.specs.Prelude.{ℕ, ⊤, Bool, List}
+use Rattle.std.specs.Prelude.{⊤, Bool, List}
 use Rattle.tao_core.specs.Core.{IsCoreOf}
-use Rattle.tao_top.specs.Step.{RunsLines, RunStage, State, disagreeing, ended, serving, waiting}
+use Rattle.tao_top.specs.Step.{Given, ReplyLine, Runs, RunStage, State, disagreeing, ended, serving, waiting}
 use Rattle.core_nodes.specs.Outside.{Outside}
 
 -- the core that serves may be used with the keepers' tables, at a stage
@@ -15,6 +15,6 @@ MayServeAt tells (disagreeing s) around = ⊤
 abbrev pub MayGoOn : Bool → State → Type 0
 MayGoOn tells state = MayServeAt tells state.stage state.outside
 
--- what may go on at first may go on after every line
+-- what may go on at first may go on after all that is given
 pub record RunsGoOn (tells : Bool) : Type 0 where
-  pub on : (old new : State) (lines texts : List (List ℕ)) → MayGoOn tells old → RunsLines tells old lines texts new → MayGoOn tells new
+  pub on : (old new : State) (given : List Given) (replies : List ReplyLine) → MayGoOn tells old → Runs tells old given replies new → MayGoOn tells new

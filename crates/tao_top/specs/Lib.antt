@@ -1,4 +1,6 @@
+pub mod Across
 pub mod Kept
+pub mod Making
 pub mod Laws
 pub mod Step
 pub mod Stop

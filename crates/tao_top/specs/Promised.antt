@@ -1,4 +1,4 @@
--- That a run keeps the promise: the lines of the input and their replies are steps of it, one after another, from what the tables were to what they are.
+-- That a run keeps the promise: what it is given and its replies are steps of it, one after another, from what the tables were to what they are.
 use Rattle.std.specs.Prelude.{ℕ, ◌≡◌, ◌⊎◌, ◌==◌, ⊤, Bool, true, false, List, [], ◌∷◌, ◌++◌, Option, Some, None, Result, Ok, Err, codes, filter, length}
 use Rattle.std.specs.Prelude.{if◌then◌else◌, is_some, not}
 use Rattle.std.specs.List.{list_any}
@@ -11,7 +11,6 @@ use Rattle.core_plans.specs.Held.{Plans, plan_at, plan_count}
 use Rattle.core_sessions.specs.Sessions.{Session, is_open}
 use Rattle.plain_promise.specs.Promise.{Plain, RunsPlainly, Said}
 use Rattle.tao_schema.specs.Schema.{types_of}
-use Rattle.reply_json.specs.Reply.{reply_text}
 use Rattle.replies.specs.declared.plans.PlanReply.TheVariants.{Next}
 use Rattle.replies.specs.declared.refusals.Refusal.{Refusal}
 use Rattle.replies.specs.declared.refusals.Refusal.TheVariants.{Memory}
@@ -20,15 +19,15 @@ use Rattle.replies.specs.declared.reply.Reply.TheVariants.{BadConfiguration, Bad
 use Rattle.request_check.specs.declared.checked.Checked.{Checked}
 use Rattle.request_check.specs.declared.checked.Checked.TheVariants as asks
 use Rattle.request_check.specs.declared.plans.CheckedPlan.TheVariants.{Advance, Hold}
-use Rattle.request_json.specs.Requests.{request_in}
 use Rattle.request_json.specs.declared.refusal.LineRefusal.{LineRefusal}
 use Rattle.requests.specs.declared.request.Request.{Request}
 use Rattle.tao_base.specs.declared.id.StoreName.{StoreName}
 use Rattle.tao_core.specs.Asked.{asked_of}
+use Rattle.tao_core.specs.Opened.{AreAsBefore}
 use Rattle.tao_keeper.specs.Table.{OpensAs, Tables}
 use Rattle.tao_keeper.specs.declared.keeper.Opened.TheVariants.{OtherLine}
-use Rattle.tao_top.specs.Served.{AppendsPart, AreLines, LinesBegin, joined}
-use Rattle.tao_top.specs.Step.{AnswersNoRequest, no_settings}
+use Rattle.tao_top.specs.Served.{AppendsPart, AreGiven, Ending, GivenBegin, Streams, printed}
+use Rattle.tao_top.specs.Step.{AnswersNoRequest, Given, ReplyLine, asked_in, in_line, line_read, no_settings, request_made}
 use Rattle.topology.specs.Config.{Settings}
 
 -- ---- the sessions that are open, and the plans that are held
@@ -100,10 +99,10 @@ pub record IsAskedOf (s : Settings) (used : InUse) (request : Request) (found : 
 
 -- ---- a line and its reply
 
--- the request asks this, and it can be done
-pub record IsRequestFor (s : Settings) (used : InUse) (line : List ℕ) (asked : Checked) : Type 0 where
+-- the given is a request that asks this, and it can be done
+pub record IsRequestFor (s : Settings) (used : InUse) (given : Given) (asked : Checked) : Type 0 where
   pub request : Request
-  pub line_is : request_in line ≡ Ok request
+  pub given_is : asked_in given ≡ Ok request
   pub asks : IsAskedOf s used request (Ok asked)
 
 -- what the request asks can't be done, and the reply is that refusal
@@ -117,48 +116,45 @@ abbrev pub IsRefusedAs : Settings → InUse → Result Request LineRefusal → R
 IsRefusedAs s used (Err refused) reply = AnswersNoRequest refused reply
 IsRefusedAs s used (Ok request) reply = (reply ≡ Refused (Memory 0)) ⊎ IsRefusedFor s used request reply
 
--- the line asks what is said to be asked; where nothing is, it was refused before anything was done, and rightly
-abbrev pub LineAsks : Settings → InUse → List ℕ → Option Checked → Reply → Type 0
-LineAsks s used line None reply = IsRefusedAs s used (request_in line) reply
-LineAsks s used line (Some asked) reply = IsRequestFor s used line asked
+-- the given asks what is said to be asked; where nothing is, it was refused before anything was done, and rightly
+abbrev pub LineAsks : Settings → InUse → Given → Option Checked → Reply → Type 0
+LineAsks s used given None reply = IsRefusedAs s used (asked_in given) reply
+LineAsks s used given (Some asked) reply = IsRequestFor s used given asked
 
--- the text of a reply, and a line feed
-abbrev pub text_line : Settings → Reply → List ℕ
-text_line s reply = reply_text s reply ++ 10 ∷ []
+-- the given asks what is said to be asked, where these sessions and plans are in use, and this is the reply, with its line
+pub record IsSaid (s : Settings) (used : InUse) (given : Given) (reply : ReplyLine) (said : Said) : Type 0 where
+  pub asks : LineAsks s used given said.asked said.reply
+  pub reply_is : reply ≡ in_line s said.reply
 
--- the line asks what is said to be asked, where these sessions and plans are in use, and the text is that of the reply
-pub record IsSaid (s : Settings) (used : InUse) (line text : List ℕ) (said : Said) : Type 0 where
-  pub asks : LineAsks s used line said.asked said.reply
-  pub text_is : text ≡ text_line s said.reply
-
--- each line and its text, one after another, from these sessions and plans on
-abbrev pub AreSaid : Settings → InUse → List (List ℕ) → List (List ℕ) → List Said → Type 0
+-- each that is given and its reply, one after another, from these sessions and plans on
+abbrev pub AreSaid : Settings → InUse → List Given → List ReplyLine → List Said → Type 0
 AreSaid s used [] [] [] = ⊤
-AreSaid s used (line ∷ lines) (text ∷ texts) (said ∷ saids) =
-    IsSaid s used line text said × AreSaid s (in_use_after used said.asked said.reply) lines texts saids
-AreSaid s used lines texts saids = ⊥
+AreSaid s used (given ∷ others) (reply ∷ replies) (said ∷ saids) =
+    IsSaid s used given reply said × AreSaid s (in_use_after used said.asked said.reply) others replies saids
+AreSaid s used others replies saids = ⊥
 
 -- ---- a run
 
--- before the first line: logs and open jobs are as the tables tell them, nobody has learnt of anything, no call is held, and nothing was settled
+-- before the first line: logs and open jobs are as the tables tell them, nobody has learnt of or seen anything, no call is held, and nothing was settled
 abbrev pub at_first : Settings → Tables → Plain
-at_first s tables = record { stores = stores_in s tables; learnt = λ session. []; held = λ plan. None; settled = None }
+at_first s tables = record { stores = stores_in s tables; learnt = λ session. []; seen = λ session. []; held = λ plan. None; settled = None }
 
--- by this configuration, each of these lines with the text of its reply is a step of the promise, one after another; the last one leaves logs and open
+-- by this configuration, each of these that are given, with its reply, is a step of the promise, one after another; the last one leaves logs and open
 -- jobs as the tables then tell them
-pub record RunsAsPromised (s : Settings) (old : Tables) (lines texts : List (List ℕ)) (new : Tables) : Type 0 where
+pub record RunsAsPromised (s : Settings) (old : Tables) (given : List Given) (replies : List ReplyLine) (new : Tables) : Type 0 where
   pub saids : List Said
-  pub said : AreSaid s none_in_use lines texts saids
+  pub said : AreSaid s none_in_use given replies saids
   pub last : Plain
   pub runs : RunsPlainly (types_of s.schema) (at_first s old) saids last
   pub stores : last.stores ≡ stores_in s new
 
--- the first line was taken as the configuration, which was replied, and those after it were as promised
-pub record IsConfigured (old : Tables) (line text : List ℕ) (lines texts : List (List ℕ)) (new : Tables) : Type 0 where
+-- the first line was taken as the configuration, with its reply, and what was given after it was as promised
+pub record IsConfigured (old : Tables) (line : List ℕ) (given : List Given) (replies : List ReplyLine) (new : Tables) : Type 0 where
   pub settings : Settings
   pub configured : config_in line ≡ Ok settings
-  pub text_is : text ≡ text_line settings Configured
-  pub runs : RunsAsPromised settings old lines texts new
+  pub others : List ReplyLine
+  pub replies_are : replies ≡ in_line settings Configured ∷ others
+  pub runs : RunsAsPromised settings old given others new
 
 -- a store of the configuration was first opened with another line
 pub record IsOpenedOtherwise (s : Settings) (line : List ℕ) (tables : Tables) : Type 0 where
@@ -172,49 +168,44 @@ IsRefusedWith old line field = (config_in line ≡ Err (BadConfig field))
     ⊎ ((field ≡ codes "file") × ((s : Settings) × (config_in line ≡ Ok s) × IsOpenedOtherwise s line old))
 
 -- the first line was refused as the configuration, which was replied
-pub record IsUnconfigured (old : Tables) (line text : List ℕ) : Type 0 where
+pub record IsUnconfigured (old : Tables) (line : List ℕ) (reply : ReplyLine) : Type 0 where
   pub field : List ℕ
   pub refused : IsRefusedWith old line field
-  pub text_is : text ≡ text_line no_settings (BadConfiguration field)
+  pub reply_is : reply ≡ in_line no_settings (BadConfiguration field)
 
 -- the first line is a configuration, and the log of this slave's store differs from its master's, first at this position, which was replied
-pub record IsParted (old : Tables) (line text : List ℕ) : Type 0 where
+pub record IsParted (old : Tables) (line : List ℕ) (reply : ReplyLine) : Type 0 where
   pub settings : Settings
   pub configured : config_in line ≡ Ok settings
   pub store : StoreName
   pub position : ℕ
   pub slave : IsSlaveStore settings store
   pub disagrees : DisagreesAt settings old store position
-  pub text_is : text ≡ text_line settings (BadStores store position)
-
--- no log and no open job changed
-pub record AreAsBefore (old new : Tables) : Type 0 where
-  pub logs : (at : StoreName) → (new at).log ≡ (old at).log
-  pub jobs : (at : StoreName) → (new at).jobs ≡ (old at).jobs
+  pub reply_is : reply ≡ in_line settings (BadStores store position)
 
 -- the first line was not served, as was replied: nothing after it was answered, and nothing was done
-pub record IsNotServed (old : Tables) (line text : List ℕ) (lines texts : List (List ℕ)) (new : Tables) : Type 0 where
-  pub why : IsUnconfigured old line text ⊎ IsParted old line text
-  pub no_line : lines ≡ []
-  pub no_text : texts ≡ []
+pub record IsNotServed (old : Tables) (line : List ℕ) (given : List Given) (replies : List ReplyLine) (new : Tables) : Type 0 where
+  pub reply : ReplyLine
+  pub why : IsUnconfigured old line reply ⊎ IsParted old line reply
+  pub none_given : given ≡ []
+  pub replies_are : replies ≡ reply ∷ []
   pub same : AreAsBefore old new
 
--- these lines were answered with these texts, as promised: none was; or that there is none was replied; or the first one was not served, and nothing after it
--- was answered; or it was taken as the configuration
-abbrev pub AreAsPromised : Tables → List (List ℕ) → List (List ℕ) → Tables → Type 0
+-- all that was given has these replies, as promised: nothing was; or that there is no line was replied; or the first line was not served, and nothing after
+-- it was answered; or it was taken as the configuration
+abbrev pub AreAsPromised : Tables → List Given → List ReplyLine → Tables → Type 0
 AreAsPromised old [] [] new = AreAsBefore old new
-AreAsPromised old [] (text ∷ []) new = (text ≡ text_line no_settings (BadConfiguration [])) × AreAsBefore old new
-AreAsPromised old [] (text ∷ another ∷ texts) new = ⊥
-AreAsPromised old (line ∷ lines) [] new = ⊥
-AreAsPromised old (line ∷ lines) (text ∷ texts) new =
-    IsConfigured old line text lines texts new ⊎ IsNotServed old line text lines texts new
+AreAsPromised old [] (reply ∷ []) new = (reply ≡ in_line no_settings (BadConfiguration [])) × AreAsBefore old new
+AreAsPromised old [] (reply ∷ another ∷ replies) new = ⊥
+AreAsPromised old (request_made request ∷ given) replies new = ⊥
+AreAsPromised old (line_read line ∷ given) replies new = IsConfigured old line given replies new ⊎ IsNotServed old line given replies new
 
--- the run answered the first lines of the input, with 0 all of them, and wrote these texts, or a front of them, in order; and all that is as promised, from
--- what the tables told before it to what they tell after it
-pub record RunKeepsPromise (code : ℕ) (old new : Tables) (left before after : Option (List ℕ)) : Type 0 where
-  pub lines : List (List ℕ)
-  pub texts : List (List ℕ)
-  pub read : LinesBegin left lines
-  pub written : AppendsPart before after (joined texts)
-  pub whole : code ≡ 0 → AreLines left lines × Appends before after (joined texts)
-  pub promised : AreAsPromised old lines texts new
+-- the run answered the first of what its words and the input give it, with 0 all of that, and wrote what is printed of its replies, or a front of it; and
+-- all that is as promised, from what the tables told before it to what they tell after it
+pub record RunKeepsPromise (ending : Ending) (old new : Tables) (before : Streams) (after : Option (List ℕ)) : Type 0 where
+  pub given : List Given
+  pub replies : List ReplyLine
+  pub read : GivenBegin ending.asked before.left given
+  pub written : AppendsPart before.written after (printed ending.asked given replies)
+  pub whole : ending.code ≡ 0 → AreGiven ending.asked before.left given × Appends before.written after (printed ending.asked given replies)
+  pub promised : AreAsPromised old given replies new

@@ -1,4 +1,4 @@
--- A line and its reply: from one state of a run to the next.
+-- What a run is given and its reply: from one state of the run to the next.
 use Rattle.std.specs.Prelude.{◌≡◌, ◌⊎◌, ℕ, Bool, List, [], ◌∷◌, ◌++◌, Result, Ok, Err, codes}
 use Rattle.tao_keeper.specs.KeeperState.{IsLater}
 use Rattle.tao_base.specs.declared.id.StoreName.{StoreName}
@@ -39,6 +39,16 @@ pub record State : Type 0 where
   pub stage : RunStage
   pub outside : Outside
 
+-- what a run is given to answer: a line that it reads, or a request that it makes
+pub data Given : Type 0 where
+  line_read : List ℕ → Given
+  request_made : Request → Given
+
+-- what the given asks, or why the line is no request
+abbrev pub asked_in : Given → Result Request LineRefusal
+asked_in (line_read line) = request_in line
+asked_in (request_made request) = Ok request
+
 -- ---- the text of a reply
 
 -- settings without any name
@@ -52,9 +62,22 @@ spelled_by (serving core) = core.settings
 spelled_by ended = no_settings
 spelled_by (disagreeing s) = s
 
--- a reply's line: its text and a line feed
+-- a reply, and its line
+pub record ReplyLine : Type 0 where
+  pub reply : Reply
+  pub text : List ℕ
+
+-- a reply with its line: its text by these settings and a line feed
+abbrev pub in_line : Settings → Reply → ReplyLine
+in_line s reply = record { reply = reply; text = reply_text s reply ++ 10 ∷ [] }
+
+-- a reply with its line at a stage
+abbrev pub line_at : RunStage → Reply → ReplyLine
+line_at stage reply = in_line (spelled_by stage) reply
+
+-- a reply's line at a stage
 abbrev pub reply_line : RunStage → Reply → List ℕ
-reply_line stage reply = reply_text (spelled_by stage) reply ++ 10 ∷ []
+reply_line stage reply = (line_at stage reply).text
 
 -- ---- the first line
 
@@ -101,7 +124,12 @@ Configures tells old line (BadStores store position) (disagreeing s) new =
     FindsDisagreement tells old line (record { settings = s; store = store; position = position }) new
 Configures tells old line reply stage new = ⊥
 
--- ---- each later line
+-- what the reply to the first that a run is given says: a line, and no request that it makes
+abbrev pub ConfiguresBy : Bool → Outside → Given → Reply → RunStage → Outside → Type 0
+ConfiguresBy tells old (line_read line) reply stage new = Configures tells old line reply stage new
+ConfiguresBy tells old (request_made request) reply stage new = ⊥
+
+-- ---- each later line, and each request
 
 -- a line that is no request gets its refusal
 abbrev pub AnswersNoRequest : LineRefusal → Reply → Type 0
@@ -118,7 +146,7 @@ pub record KeepsServing (tells : Bool) (old new : Moment) : Type 0 where
   pub grows : StoresGrow tells old.core.settings old.keepers.told new.keepers.told
   pub of_core : IsCoreOf tells new.keepers.told new.core
 
--- what the reply to what a line asks says, and what the line keeps
+-- what the reply to what is asked says, and what the line keeps
 abbrev pub AnswersLine : Bool → Moment → Result Request LineRefusal → Reply → Moment → Type 0
 AnswersLine tells old (Err refused) reply new = AnswersNoRequest refused reply × (new ≡ old)
 AnswersLine tells old (Ok request) reply new =
@@ -126,31 +154,32 @@ AnswersLine tells old (Ok request) reply new =
 
 -- ---- the run
 
--- what the reply to a line says at each stage
-abbrev pub StepIn : Bool → State → List ℕ → Reply → State → Type 0
-StepIn tells old line reply new = by_stage old.stage new.stage
+-- what the reply to the given says at each stage
+abbrev pub StepIn : Bool → State → Given → Reply → State → Type 0
+StepIn tells old given reply new = by_stage old.stage new.stage
   where
     by_stage : RunStage → RunStage → Type 0
-    by_stage waiting next = Configures tells old.outside line reply next new.outside
-    by_stage (serving core) (serving next) = AnswersLine tells (moment_of core old.outside) (request_in line) reply (moment_of next new.outside)
+    by_stage waiting next = ConfiguresBy tells old.outside given reply next new.outside
+    by_stage (serving core) (serving next) = AnswersLine tells (moment_of core old.outside) (asked_in given) reply (moment_of next new.outside)
     by_stage (serving core) waiting = ⊥
     by_stage (serving core) ended = ⊥
     by_stage (serving core) (disagreeing s) = ⊥
     by_stage ended next = ⊥
     by_stage (disagreeing s) next = ⊥
 
--- one line and its reply. No count of the keepers fell
-pub record Step (tells : Bool) (old : State) (line : List ℕ) (reply : Reply) (new : State) : Type 0 where
-  pub does : StepIn tells old line reply new
+-- one that is given, and its reply. No count of the keepers fell
+pub record Step (tells : Bool) (old : State) (given : Given) (reply : Reply) (new : State) : Type 0 where
+  pub does : StepIn tells old given reply new
   pub later : IsLater old.outside.keepers new.outside.keepers
 
--- the line has a reply, whose text is written so
-abbrev pub Replies : Bool → State → List ℕ → State → (List ℕ → Type 0) → Type 0
-Replies tells old line new Writes = (reply : Reply) × Step tells old line reply new × Writes (reply_line new.stage reply)
+-- the given has a reply, which with its line is so
+abbrev pub Replies : Bool → State → Given → State → (ReplyLine → Type 0) → Type 0
+Replies tells old given new So = (reply : Reply) × Step tells old given reply new × So (line_at new.stage reply)
 
--- each line gets one reply, one after another, with these texts
-abbrev pub RunsLines : Bool → State → List (List ℕ) → List (List ℕ) → State → Type 0
-RunsLines tells old [] [] new = new ≡ old
-RunsLines tells old (line ∷ lines) (text ∷ texts) new = (mid : State) × Replies tells old line mid (λ said. text ≡ said) × RunsLines tells mid lines texts new
-RunsLines tells old [] (text ∷ texts) new = ⊥
-RunsLines tells old (line ∷ lines) [] new = ⊥
+-- each that is given gets one of the replies, one after another
+abbrev pub Runs : Bool → State → List Given → List ReplyLine → State → Type 0
+Runs tells old [] [] new = new ≡ old
+Runs tells old (given ∷ others) (reply ∷ replies) new =
+    (mid : State) × Replies tells old given mid (λ said. reply ≡ said) × Runs tells mid others replies new
+Runs tells old [] (reply ∷ replies) new = ⊥
+Runs tells old (given ∷ others) [] new = ⊥

@@ -1,5 +1,5 @@
 //! The first line of a run: its configuration, with which the stores are opened.
-ghost use Rattle.std.specs.Prelude.{◌≡◌, ◌≢◌, ◌≤◌, ◌^◌, Ok, Err, [], ◌∷◌, length, IfErr, IfOk, OnErr};
+ghost use Rattle.std.specs.Prelude.{◌≡◌, ◌≢◌, ◌≤◌, ◌^◌, Ok, Err, [], ◌∷◌, length, IfErr, IfOk, OnErr, OnOk};
 ghost use Rattle.std.specs.Io.KnownBytes.{Appends};
 ghost use Rattle.config_json.specs.Config.{config_in};
 ghost use Rattle.graph_model.specs.Told.{WhereTold};
@@ -7,17 +7,17 @@ ghost use Rattle.core_nodes.specs.Opening.{MayOpen};
 ghost use Rattle.tao_io.specs.LineReader.{most_ahead, to_come};
 ghost use Rattle.tao_io.specs.Lines.{CountsTaken, GivesLines};
 ghost use Rattle.tao_top.specs.Begun.{ConfiguredInPart, EndsAtFirst, GivesOne, RefusesFirst, RefusesFor, RefusesInPart, RefusesLine};
-ghost use Rattle.tao_top.specs.Begun.{StopsBeginning, TellsDisagreement};
+ghost use Rattle.tao_top.specs.Begun.{RepliesFirst, StopsBeginning, TellsDisagreement};
 ghost use Rattle.tao_link.specs.Shown.{LinkShown};
 ghost use Rattle.tao_top.specs.Kept.{LeavesTables, MayServe};
 ghost use Rattle.core_nodes.specs.Outside.{outside};
-ghost use Rattle.tao_top.specs.Served.{OpensInPart, serves, start, AtOpeningOrLater};
-ghost use Rattle.tao_top.specs.Step.{Replies};
-ghost use Rattle.tao_top.specs.Stop.{FaultsGrow, StopHasCause, faults, stop_code};
+ghost use Rattle.tao_top.specs.Served.{AppendsPart, OpensInPart, serves, start, AtOpeningOrLater, told_configured};
+ghost use Rattle.tao_top.specs.Stop.{FaultsGrow, InterruptsWriting, StopHasCause, faults, stop_code};
 
 use crate::lines::{refuse, tell_disagreement};
 use crate::serving::Serving;
 use crate::stop::{Interrupt, Stop};
+use command_words::Words;
 use std::alloc::Global;
 use tao_io::{LineReader, NextLine, Sink, Source};
 use tao_keeper::Keeper;
@@ -28,7 +28,7 @@ use topology::Config;
 #[derive(Drop)]
 pub(crate) struct First {
     line: Vec<u8>,
-    config: Config,
+    pub(crate) config: Config,
 }
 
 /// Takes a line as the configuration, or writes its refusal.
@@ -83,24 +83,49 @@ pub(crate) fn read_first<R: Source, S: Sink>(
     }
 }
 
-/// Opens the stores with the configuration, and writes the reply to its line. Whatever a link shows, it is left alone.
+/// Tells that the configuration was taken, where the words ask for the reply to each line.
+fn tell_configured<S: Sink>(
+    words: &Words,
+    serving: &Serving<'_>,
+    output: &mut S,
+) -> Result<(), Interrupt>
+    ensures ok { OnOk result (Appends (S.taken output.old) (S.taken output.new) (told_configured words.now serving.now)) }
+    ensures err { OnErr result (AppendsPart (S.taken output.old) (S.taken output.new) (told_configured words.now serving.now)) }
+    ensures cause { IfErr result (InterruptsWriting (S.faults output.old) (S.faults output.new)) }
+    ensures later { S.faults output.old ≤ S.faults output.new }
+{
+    match words {
+        Words::Run { .. } => {
+            let reply = Reply::Configured;
+            let said = serving.say(output, &reply);
+            drop(reply);
+            said
+        }
+        Words::Gen { .. } => Ok(()),
+    }
+}
+
+/// Opens the stores with the configuration, and writes what the words ask for of the reply to its line. Whatever a link shows, it is left alone.
 #[tactic(auto, using(crate::proofs::Keeping::leaves_same))]
 pub(crate) fn begin<'c, S: Sink, K: Keeper>(
     alloc: Global,
+    words: &Words,
     first: &'c First,
     output: &mut S,
     keepers: &mut K,
 ) -> Result<Serving<'c>, Stop>
     requires configured { config_in first.now.line.items ≡ Ok first.now.config }
     requires kept { WhereTold K.TELLS (MayOpen first.now.config first.now.line.items (K.state keepers.old).told) }
-    ensures ok { IfOk result (λ serving. (link : LinkShown) → Replies K.TELLS (start (outside (K.state keepers.old) link)) first.now.line.items
-        (serves serving (outside (K.state keepers.new) link)) (Appends (S.taken output.old) (S.taken output.new))) }
+    ensures settings { IfOk result (λ serving. serving.settings ≡ first.now.config) }
+    ensures ok { IfOk result (λ serving. (link : LinkShown) → RepliesFirst words.now K.TELLS
+        (start (outside (K.state keepers.old) link)) first.now.line.items (serves serving (outside (K.state keepers.new) link))
+        (Appends (S.taken output.old) (S.taken output.new))) }
     ensures serving { IfOk result (λ serving. MayServe K.TELLS serving (K.state keepers.new).told) }
     ensures err { IfErr result (λ stop. (link : LinkShown) → AtOpeningOrLater (stop_code stop)
         (OpensInPart K.TELLS (outside (K.state keepers.old) link) (outside (K.state keepers.new) link) first.now.line.items
         (S.taken output.old) (S.taken output.new))
-        (ConfiguredInPart K.TELLS (outside (K.state keepers.old) link) (outside (K.state keepers.new) link) first.now.line.items
-        (S.taken output.old) (S.taken output.new))) }
+        (ConfiguredInPart words.now K.TELLS (outside (K.state keepers.old) link) (outside (K.state keepers.new) link) first.now.line.items
+        (AppendsPart (S.taken output.old) (S.taken output.new)))) }
     ensures keepers { result ≡ Err Stop.Keepers → (link : LinkShown) → OpensInPart K.TELLS
         (outside (K.state keepers.old) link) (outside (K.state keepers.new) link) first.now.line.items
         (S.taken output.old) (S.taken output.new) }
@@ -116,10 +141,7 @@ pub(crate) fn begin<'c, S: Sink, K: Keeper>(
 {
     match Serving::open(alloc, &first.config, &first.line, keepers) {
         Ok(serving) => {
-            let reply = Reply::Configured;
-            let said = serving.say(output, &reply);
-            drop(reply);
-            match said {
+            match tell_configured(words, &serving, output) {
                 Ok(()) => Ok(serving),
                 Err(interrupt) => {
                     drop(serving);

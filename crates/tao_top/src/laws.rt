@@ -1,5 +1,6 @@
-//! What holds at each state of a run.
+//! What holds at each state of a run, and across two runs.
 ghost use Rattle.std.specs.Prelude.{Bool};
+ghost use Rattle.tao_top.specs.Across.{RunsStandAcross};
 ghost use Rattle.tao_top.specs.Laws.{RunsGoOn};
 ghost use Rattle.tao_top.specs.PromisedLaws.{RefusesRightly, RunsArePromised};
 
@@ -19,4 +20,11 @@ pub fn runs_are_promised()
 #[tactic(auto, using(crate::proofs::Promised::refuses_rightly))]
 pub fn refuses_rightly()
     ensures { RefusesRightly }
+{}
+
+/// A write that a run acknowledged stands at its position after each run that follows over the same keepers, once under its origin, however the runs ended,
+/// and that run may begin where the first might.
+#[tactic(auto, using(crate::proofs::AcrossRuns::runs_stand_across))]
+pub fn runs_stand_across()
+    ensures { RunsStandAcross }
 {}

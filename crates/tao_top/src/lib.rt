@@ -4,6 +4,7 @@
 mod begin;
 pub mod laws;
 mod lines;
+mod making;
 mod serve;
 mod serving;
 mod stop;

@@ -50,6 +50,25 @@ pub(crate) fn say<S: Sink>(
     write_line(output, text)
 }
 
+/// Writes a text and the line of a reply, each with a line feed, at once.
+pub(crate) fn say_after<S: Sink>(
+    alloc: Global,
+    config: &Config,
+    output: &mut S,
+    text: Bytes,
+    reply: &Reply,
+) -> Result<(), Interrupt>
+    ensures ok { OnOk result (Appends (S.taken output.old) (S.taken output.new) ((text ++ 10 ∷ []) ++ (reply_text config.now reply.now ++ 10 ∷ []))) }
+    ensures err { OnErr result (AppendsPart (S.taken output.old) (S.taken output.new) ((text ++ 10 ∷ []) ++ (reply_text config.now reply.now ++ 10 ∷ []))) }
+    ensures cause { IfErr result (InterruptsWriting (S.faults output.old) (S.faults output.new)) }
+    ensures later { S.faults output.old ≤ S.faults output.new }
+{
+    let mut lines = ended(text)?;
+    let said = reply_text(alloc, config, reply)?;
+    lines.extend_from_slice(said.as_slice())?;
+    write_line(output, Bytes::of(lines))
+}
+
 /// Writes the line that refuses the configuration for a field.
 fn say_refusal<S: Sink>(alloc: Global, output: &mut S, field: &str) -> Result<(), Interrupt>
     ensures ok { OnOk result (Appends (S.taken output.old) (S.taken output.new) (refusal_line field.now)) }

@@ -1,9 +1,10 @@
 //! A core that serves by its configuration: a line answered, and its reply written.
 ghost use Rattle.tao_keeper.specs.KeeperState.{IsLater};
-ghost use Rattle.std.specs.Prelude.{◌≡◌, ◌≤◌, [], Ok, IfOk, IfErr, OnOk, OnErr};
+ghost use Rattle.std.specs.Prelude.{◌≡◌, ◌≤◌, ◌++◌, ◌∷◌, [], Ok, IfOk, IfErr, OnOk, OnErr};
 ghost use Rattle.std.specs.Io.KnownBytes.{Appends};
 ghost use Rattle.config_json.specs.Config.{config_in};
 ghost use Rattle.graph_model.specs.Told.{WhereTold};
+ghost use Rattle.load_gen.specs.Requests.{requests_of};
 ghost use Rattle.request_json.specs.Requests.{request_in};
 ghost use Rattle.tao_core.specs.Core.{IsNewCore, moment};
 ghost use Rattle.core_nodes.specs.Beginning.{AreAtStores};
@@ -11,15 +12,17 @@ ghost use Rattle.core_nodes.specs.Opening.{IsOpened, MayOpen, RefusesOpening};
 ghost use Rattle.tao_top.specs.Begun.{RepliesInPart};
 ghost use Rattle.tao_top.specs.Kept.{LeavesTables, MayServe};
 ghost use Rattle.core_nodes.specs.Outside.{outside};
+ghost use Rattle.tao_top.specs.Making.{CountsCalls, under_way, way_of};
 ghost use Rattle.tao_top.specs.Served.{AppendsPart, serves};
-ghost use Rattle.tao_top.specs.Step.{AnswersLine, Replies, reply_line, serving};
+ghost use Rattle.tao_top.specs.Step.{AnswersLine, Replies, line_read, reply_line, serving};
 ghost use Rattle.tao_top.specs.Stop.{InterruptsWriting};
 
-use crate::lines::say;
+use crate::lines::{say, say_after};
+use crate::making::Making;
 use crate::stop::Interrupt;
 use std::alloc::{AllocError, Global};
 use std::marker::Model;
-use tao_base::Text;
+use tao_base::{Bytes, OutOfMemory, Text};
 use tao_core::Core;
 use tao_io::Sink;
 use tao_keeper::Keeper;
@@ -89,6 +92,14 @@ impl<'c> Serving<'c> {
         Vec::new(self.alloc)
     }
 
+    /// The workload of a seed and a number of calls over the configuration, of which nothing is made yet.
+    pub(crate) fn workload(&self, seed: u64, calls: u64) -> Result<Making, OutOfMemory>
+        ensures made { IfOk result (λ making. way_of making ≡ under_way (requests_of self.now.settings seed calls) calls 0) }
+        ensures counts { IfOk result (λ making. CountsCalls (way_of making)) }
+    {
+        Making::of(self.alloc, self.config, seed, calls)
+    }
+
     /// Writes the line of a reply.
     pub(crate) fn say<S: Sink>(&self, output: &mut S, reply: &Reply) -> Result<(), Interrupt>
         ensures ok { OnOk result (Appends (S.taken output.old) (S.taken output.new) (reply_line (serving self.now) reply.now)) }
@@ -99,8 +110,23 @@ impl<'c> Serving<'c> {
         say(self.alloc, self.config, output, reply)
     }
 
+    /// Writes a text and the line of a reply.
+    pub(crate) fn say_after<S: Sink>(
+        &self,
+        output: &mut S,
+        text: Bytes,
+        reply: &Reply,
+    ) -> Result<(), Interrupt>
+        ensures ok { OnOk result (Appends (S.taken output.old) (S.taken output.new) ((text ++ 10 ∷ []) ++ reply_line (serving self.now) reply.now)) }
+        ensures err { OnErr result (AppendsPart (S.taken output.old) (S.taken output.new) ((text ++ 10 ∷ []) ++ reply_line (serving self.now) reply.now)) }
+        ensures cause { IfErr result (InterruptsWriting (S.faults output.old) (S.faults output.new)) }
+        ensures later { S.faults output.old ≤ S.faults output.new }
+    {
+        say_after(self.alloc, self.config, output, text, reply)
+    }
+
     /// The core's reply to a request.
-    fn call<K: Keeper, L: Link>(
+    pub(crate) fn call<K: Keeper, L: Link>(
         &mut self,
         keepers: &mut K,
         link: &mut L,
@@ -157,9 +183,10 @@ impl<'c> Serving<'c> {
         line: &[u8],
     ) -> Result<(), Interrupt>
         requires serving { MayServe K.TELLS self.old (K.state keepers.old).told }
-        ensures ok { OnOk result (Replies K.TELLS (serves self.old (outside (K.state keepers.old) (L.shown link.old))) line.now
-            (serves self.new (outside (K.state keepers.new) (L.shown link.new))) (Appends (S.taken output.old) (S.taken output.new))) }
-        ensures err { OnErr result (RepliesInPart K.TELLS (serves self.old (outside (K.state keepers.old) (L.shown link.old))) line.now
+        ensures ok { OnOk result (Replies K.TELLS (serves self.old (outside (K.state keepers.old) (L.shown link.old))) (line_read line.now)
+            (serves self.new (outside (K.state keepers.new) (L.shown link.new)))
+            (λ said. Appends (S.taken output.old) (S.taken output.new) said.text)) }
+        ensures err { OnErr result (RepliesInPart K.TELLS (serves self.old (outside (K.state keepers.old) (L.shown link.old))) (line_read line.now)
             (serves self.new (outside (K.state keepers.new) (L.shown link.new))) (S.taken output.old) (S.taken output.new)) }
         ensures serving { MayServe K.TELLS self.new (K.state keepers.new).told }
         ensures tables { LeavesTables K.TELLS (K.state keepers.old) (K.state keepers.new) }

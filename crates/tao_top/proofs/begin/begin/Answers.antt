@@ -15,20 +15,20 @@ returns-in-Err-clause-err g c =
     let opened = subst (λ l. WhereTold g.K.Keeper.TELLS
     (IsOpened c.args.first.now.config l (g.K.Keeper.state c.args.keepers.now).told (g.K.Keeper.state c.open.new.keepers).told)) c.deref.ensures.value
     c.in-Ok.ensures.opened in
-    begun_whatever g.K.Keeper.TELLS (keepers c.args.keepers.now)
+    begun_whatever c.args.words.now g.K.Keeper.TELLS (keepers c.args.keepers.now)
     (keepers c.open.new.keepers) c.args.first.now.line.items c.args.first.now.config c.requires.configured c.in-Ok.ensures.later _ _
     c.in-Ok.serving c.in-Ok.ensures.settings c.in-Ok.ensures.begun c.in-Ok.ensures.serving.of_core c.in-Ok.ensures.ends opened
     c.in-Err.ensures.err (interrupt_code c.in-Err.interrupt)
 
-pub returns-in-Ok-said-clause-ok : goal.returns-in-Ok-said-clause-ok
-returns-in-Ok-said-clause-ok g c =
+pub returns-in-Ok-tell_configured-clause-ok : goal.returns-in-Ok-tell_configured-clause-ok
+returns-in-Ok-tell_configured-clause-ok g c =
     let keepers = g.K.Keeper.state in
     let opened = subst (λ l. WhereTold g.K.Keeper.TELLS
     (IsOpened c.args.first.now.config l (g.K.Keeper.state c.args.keepers.now).told (g.K.Keeper.state c.open.new.keepers).told)) c.deref.ensures.value
     c.in-Ok.ensures.opened in
     λ link. begins g.K.Keeper.TELLS (outside (keepers c.args.keepers.now) link)
-    (outside (keepers c.open.new.keepers) link) c.args.first.now.line.items c.args.first.now.config c.requires.configured c.in-Ok.ensures.later refl _ _
-    c.in-Ok.serving c.in-Ok.ensures.settings c.in-Ok.ensures.begun c.in-Ok.ensures.serving.of_core c.in-Ok.ensures.ends opened c.in-Ok-said.ensures.ok
+    (outside (keepers c.open.new.keepers) link) c.args.first.now.line.items c.args.first.now.config c.requires.configured c.in-Ok.ensures.later refl c.args.words.now _ _
+    c.in-Ok.serving c.in-Ok.ensures.settings c.in-Ok.ensures.begun c.in-Ok.ensures.serving.of_core c.in-Ok.ensures.ends opened c.in-Ok-tell_configured.ensures.ok
 
 pub returns-in-Err-OtherLine-clause-err : goal.returns-in-Err-OtherLine-clause-err
 returns-in-Err-OtherLine-clause-err g c =
@@ -40,7 +40,7 @@ returns-in-Err-OtherLine-clause-err g c =
     refused in
     λ link. begun_other g.K.Keeper.TELLS (outside (keepers c.args.keepers.now) link)
     (outside (keepers c.open.new.keepers) link) c.args.first.now.line.items c.args.first.now.config c.requires.configured c.in-Err-OtherLine.ensures.later refl
-    _ _ other c.refuse.ensures.part (stop_code c.refuse.result)
+    c.args.words.now _ _ other c.refuse.ensures.part (stop_code c.refuse.result)
 
 pub returns-in-Err-OtherLine-clause-refused : goal.returns-in-Err-OtherLine-clause-refused
 returns-in-Err-OtherLine-clause-refused g c = λ e.
@@ -53,7 +53,7 @@ returns-in-Err-OtherLine-clause-refused g c = λ e.
     let whole : c.refuse.result ≡ Configuration = cc e in
     λ link. refuses_other g.K.Keeper.TELLS (outside (keepers c.args.keepers.now) link)
     (outside (keepers c.open.new.keepers) link) c.args.first.now.line.items c.args.first.now.config c.requires.configured c.in-Err-OtherLine.ensures.later refl
-    _ _ other (c.refuse.ensures.whole whole)
+    c.args.words.now _ _ other (c.refuse.ensures.whole whole)
 
 pub open-requires-clause-kept : goal.open-requires-clause-kept
 open-requires-clause-kept g c = subst (λ l. WhereTold g.K.Keeper.TELLS (MayOpen c.args.first.now.config l (g.K.Keeper.state c.args.keepers.now).told))
@@ -71,7 +71,7 @@ returns-in-Err-Disagree-clause-err g c =
     c.deref.ensures.value refused in
     λ link. begun_disagreeing g.K.Keeper.TELLS (outside (keepers c.args.keepers.now) link)
     (outside (keepers c.open.new.keepers) link) c.args.first.now.line.items c.args.first.now.config c.requires.configured c.in-Err-Disagree.ensures.later refl
-    _ _ _ _ disagree c.tell_disagreement.ensures.part (stop_code c.tell_disagreement.result)
+    c.args.words.now _ _ _ _ disagree c.tell_disagreement.ensures.part (stop_code c.tell_disagreement.result)
 
 pub returns-in-Err-Disagree-clause-stores : goal.returns-in-Err-Disagree-clause-stores
 returns-in-Err-Disagree-clause-stores g c = λ e.
@@ -84,4 +84,4 @@ returns-in-Err-Disagree-clause-stores g c = λ e.
     let whole : c.tell_disagreement.result ≡ Stores = cc e in
     λ link. tells_disagreement g.K.Keeper.TELLS (outside (keepers c.args.keepers.now) link)
     (outside (keepers c.open.new.keepers) link) c.args.first.now.line.items c.args.first.now.config c.requires.configured c.in-Err-Disagree.ensures.later refl
-    _ _ _ _ disagree (c.tell_disagreement.ensures.whole whole)
+    c.args.words.now _ _ _ _ disagree (c.tell_disagreement.ensures.whole whole)

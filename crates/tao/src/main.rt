@@ -1,9 +1,12 @@
 //! The program: `tao run` reads a configuration line and one request a line from standard input, and
 //! writes one reply a line to standard output, over stores in memory or, with `--sql FILE`, in a file.
+//! `tao gen --seed N --calls N` reads a configuration line, makes the requests that the seed determines,
+//! and writes how many calls were refused, and the settled logs.
 #![tactic(auto)]
 
 mod process;
 mod run;
+mod watched;
 
 use std::process::ExitCode;
 

@@ -42,8 +42,8 @@ fn answer(rt: &HostRuntime, words: &[String]) -> u8 {
 /// Does what the words ask for.
 fn obey(rt: &HostRuntime, words: &[String]) -> u8 {
     match read_words(rt.alloc(), words) {
-        Ok(Words::Run { sql: None }) => in_memory(rt, words),
         Ok(Words::Run { sql: Some(file) }) => in_file(rt, words, file.as_str()),
+        Ok(Words::Run { sql: None }) | Ok(Words::Gen { .. }) => in_memory(rt, words),
         Err(WordsRefusal::Usage) => answer(rt, words),
         Err(WordsRefusal::OutOfMemory) => NO_MEMORY,
     }

@@ -4,6 +4,7 @@ ghost use Rattle.graph_model.specs.Told.{WhereTold};
 ghost use Rattle.tao_keeper.specs.declared.keeper.KeepFail.TheVariants.{Failed, OutOfMemory as NoMemory};
 ghost use Rattle.tao_top.specs.Kept.{MayBeginAny};
 
+use crate::watched::Watched;
 use keeper_map::{Fails, MapKeeper};
 use keeper_sql::SqlKeeper;
 use tao_io::{StdSink, StdSource};
@@ -21,7 +22,7 @@ fn over<K: Keeper>(rt: &HostRuntime, words: &[String], keepers: &mut K) -> u8
     requires { WhereTold K.TELLS (MayBeginAny (K.state keepers.old).told) }
 {
     let mut input = StdSource::of(rt.stdin());
-    let mut output = StdSink::of(rt.stdout());
+    let mut output = Watched::of(rt, StdSink::of(rt.stdout()));
     let mut link = SwitchLink::make(rt.alloc());
     tao_top::run(
         rt.alloc(),

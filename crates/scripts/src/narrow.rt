@@ -39,4 +39,6 @@ impl Sink for NarrowSink {
         }
         Ok(1)
     }
+
+    fn progress(&mut self, _done: u64, _all: u64) {}
 }

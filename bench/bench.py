@@ -10,7 +10,7 @@ keeps what was measured in a file; --plot draws such a file, and measures nothin
 Prints the lines that a second takes of 20,000 mixed calls, what a call costs as the log of its shard
 grows, beside what the same tables take in sqlite3 in memory, what an edge costs that a range goes past,
 what adds and ranges take over a file beside sqlite3's own, what the same calls take from a slave region
-beside the master's, and, with a yardstick, what reads take that the follower answers of what it holds, as
+beside the master's, what a generated run takes as its calls grow, and, with a yardstick, what reads take that the follower answers of what it holds, as
 ratios to the yardstick's time on the same script (below 1 TAO is faster), and where it goes.
 
 Those ratios are of processor time, which other work on the machine changes least: the least of some runs,
@@ -328,6 +328,24 @@ def at_length(tao, length, asks):
     }
 
 
+def realistic():
+    """Eight shards, two regions with two tiers each, three object types and four association types."""
+    types = [{"inverse": "friend", "name": "friend"}, {"inverse": "liked_by", "name": "likes"}, {"inverse": "likes", "name": "liked_by"}, {"name": "comments"}]
+    tiers = [{"name": "t1"}, {"name": "t2"}]
+    east = {"leaders": 2, "name": MASTER, "tiers": [dict(tier, followers=2) for tier in tiers]}
+    yield line(assocs=types, objects=["user", "post", "comment"], regions=[east, {"name": SLAVE, "tiers": tiers}], shards=SHARDS)
+
+
+def generated(program):
+    """Prints how many calls of a generated run a second takes, as they grow."""
+    before = None
+    for calls in (1_000, 10_000, 100_000):
+        took = best([program, "gen", "--seed", "7", "--calls", str(calls)], script(realistic())) / calls
+        grew = f", a call's time grew {took / before:.2f} times" if before else ""
+        print(f"a generated run of {calls:,} calls: {1 / took:,.0f} a second{grew}")
+        before = took
+
+
 def measure(program, yardstick):
     """Measures and prints everything. What is drawn is answered."""
     tao = [program, "run"]
@@ -338,6 +356,7 @@ def measure(program, yardstick):
     far_down(tao, 65_536, 500)
     over_file(tao, 4_000, 20_000)
     from_regions(tao, 16_000, 60_000)
+    generated(program)
     held = over_yardstick(tao, [yardstick], 200_000) if yardstick else []
     return {"growth": growth, "held": held}
 

@@ -1,11 +1,12 @@
 #!/usr/bin/env python3
 """Refuses each request for memory of a run, one run after another, and says how many places were tried.
 
-usage: memory_sweep.py TAO [EVERY]
+usage: memory_sweep.py TAO [--places N] [--draw SEED] [--beside N]
 
-TAO is the built program, crates/tao/out/tao once ./tao was run. Over a file only each EVERY-th request is refused, each one where none is
-said: there are some thousands, since SQL asks for much. It needs a C compiler, `cc`, for a library of a few lines that counts the
-program's requests and refuses one of them.
+TAO is the built program, crates/tao/out/tao once ./tao was run. Over a file, where a run asks for memory some thousands of times since SQL asks
+for much, N places are drawn from all of them, by a seed that may be given, and all are tried where no number is. As many runs as there are
+processors go side by side, or so many. It needs a C compiler, `cc`, for a library of a few lines that counts the program's requests and refuses
+one of them.
 
 The runs are three: one in which messages are delivered late and an item is filled again, over tables in memory, and a write of an edge of
 two ends from a slave region, over tables in memory and over a file. With each request refused in its turn, a run ends with status 7, and
@@ -15,18 +16,22 @@ Over the file a second run follows, to which nothing is refused. It has to find 
 does its inverse.
 """
 
+import argparse
 import collections
+import concurrent.futures
 import json
 import os
+import random
 import subprocess
 import sys
 import tempfile
-from collections.abc import Iterator
+from collections.abc import Callable, Iterable
 from pathlib import Path
 
 SOURCE = """
 #define _GNU_SOURCE
 #include <dlfcn.h>
+#include <stdio.h>
 #include <stdlib.h>
 #include <unistd.h>
 
@@ -35,6 +40,11 @@ static unsigned long seen, refused;
 __attribute__((constructor)) static void begin(void) {
     const char *told = getenv("REFUSED");
     refused = told ? strtoul(told, 0, 10) : 0;
+}
+
+/* Where none is refused, how many there were goes to the descriptor 2. */
+__attribute__((destructor)) static void end(void) {
+    if (!refused) dprintf(2, "%lu", seen);
 }
 
 /* Counts a request. Where it is the one that is refused, a byte goes to the descriptor 2. */
@@ -78,7 +88,7 @@ LATE = [
 WRITE = [{"do": "assoc_add", "session": 3, "seq": 1, "id1": 1, "atype": "friend", "id2": OTHER, "time": 5, "data": {}}, SETTLE]
 COUNTS = [{"do": "audit", "request": {"do": "assoc_count", "session": 3, "id1": one, "atype": "friend"}} for one in (1, OTHER)]
 
-Ran = collections.namedtuple("Ran", "status lines refused")
+Ran = collections.namedtuple("Ran", "status lines told")
 
 
 def script(requests: list[object]) -> bytes:
@@ -92,10 +102,10 @@ class Program:
         self.path, self.library = path, library
 
     def run(self, requests: list[object], refused: int = 0, words: tuple[str, ...] = ()) -> Ran:
-        """A run to which the request for memory of this number is refused, none where it is 0."""
+        """A run to which the request for memory of this number is refused, and none where it is 0: then it tells how many it made."""
         more = {"LD_PRELOAD": str(self.library), "REFUSED": str(refused)}
         done = subprocess.run([self.path, "run", *words], input=script(requests), capture_output=True, timeout=600, env={**os.environ, **more})
-        return Ran(done.returncode, done.stdout.splitlines(keepends=True), done.stderr == b"!")
+        return Ran(done.returncode, done.stdout.splitlines(keepends=True), done.stderr)
 
 
 def end_of(lines: list[bytes]) -> list[list[object]]:
@@ -118,15 +128,6 @@ def check(ran: Ran, whole: list[bytes], place: int) -> str:
     sys.exit(f"request {place}: status {ran.status}, line {same + 1} of {len(whole)}: {ran.lines[same : same + 1]}")
 
 
-def in_memory(program: Program, requests: list[object]) -> Iterator[str]:
-    """Over tables in memory, each request in its turn."""
-    whole = program.run(requests).lines
-    place = 1
-    while (ran := program.run(requests, place)).refused:
-        yield check(ran, whole, place)
-        place += 1
-
-
 def check_again(ran: Ran, place: int) -> None:
     """The second run over a file has to find the write once, or to make it."""
     added, settled, *counts = [json.loads(line) for line in ran.lines[1 + len(SESSIONS) :]]
@@ -135,42 +136,69 @@ def check_again(ran: Ran, place: int) -> None:
         sys.exit(f"request {place}, the second run: {found}")
 
 
-def in_file(program: Program, requests: list[object], every: int) -> Iterator[str]:
-    """Over tables in a file, each so many, and then a second run over it."""
-    whole: list[bytes] = []
-    place = 0
-    while True:
-        with tempfile.TemporaryDirectory() as folder:
-            words = ("--sql", str(Path(folder, "tables")))
-            ran = program.run(requests, place, words)
-            check_again(program.run(requests + COUNTS, 0, words), place)
-        if place:
-            if not ran.refused:
-                return
-            yield check(ran, whole, place)
-        else:
-            whole = ran.lines
-        place += every
+def in_memory(program: Program, requests: list[object], place: int) -> Ran:
+    """Over tables in memory."""
+    return program.run(requests, place)
 
 
-def say(what: str, sweep: Iterator[str]) -> None:
-    ends = collections.Counter(sweep)
-    print(f"{what}: {sum(ends.values())} requests were refused, one in each run", flush=True)
-    for how, count in ends.most_common():
-        print(f"    {count} {how}", flush=True)
+def in_file(program: Program, requests: list[object], place: int) -> Ran:
+    """Over tables in a file, and then a second run over it."""
+    with tempfile.TemporaryDirectory() as folder:
+        words = ("--sql", str(Path(folder, "tables")))
+        ran = program.run(requests, place, words)
+        check_again(program.run(requests + COUNTS, 0, words), place)
+    return ran
 
 
-def main(path: str, every: int) -> None:
+def drawn(total: int, places: int | None, seed: int) -> Iterable[int]:
+    """All places up to the last, or so many of them."""
+    every = range(1, total + 1)
+    return every if places is None or places >= total else sorted(random.Random(seed).sample(every, places))
+
+
+class Sweep:
+    """How many runs go side by side."""
+
+    def __init__(self, beside: int) -> None:
+        self.beside = beside
+
+    def say(self, what: str, play: Callable[[int], Ran], places: int | None = None, seed: int = 0) -> None:
+        """Plays the run once with each of the places refused, and says how they ended."""
+        whole = play(0)
+        total = int(whole.told)
+
+        def end(place: int) -> str:
+            ran = play(place)
+            how = check(ran, whole.lines, place)
+            return how if ran.told else f"made fewer requests, and {how}"
+
+        with concurrent.futures.ThreadPoolExecutor(self.beside) as pool:
+            try:
+                ends = collections.Counter(pool.map(end, drawn(total, places, seed)))
+            except SystemExit:
+                pool.shutdown(wait=False, cancel_futures=True)
+                raise
+        print(f"{what}: {sum(ends.values())} of {total} requests were refused, one in each run", flush=True)
+        for how, count in ends.most_common():
+            print(f"    {count} {how}", flush=True)
+
+
+def main(tao: str, places: int | None, seed: int, beside: int) -> None:
     with tempfile.TemporaryDirectory() as folder:
         library = Path(folder, "refuse.so")
         subprocess.run(["cc", "-O1", "-shared", "-fPIC", "-x", "c", "-", "-o", library], input=SOURCE.encode(), check=True)
-        program = Program(path, library)
-        say("late messages and a refill, in memory", in_memory(program, LATE))
-        say("a write of two ends, in memory", in_memory(program, WRITE + COUNTS))
-        say("a write of two ends, over a file", in_file(program, WRITE, every))
+        program = Program(tao, library)
+        sweep = Sweep(beside)
+        sweep.say("late messages and a refill, in memory", lambda place: in_memory(program, LATE, place))
+        sweep.say("a write of two ends, in memory", lambda place: in_memory(program, WRITE + COUNTS, place))
+        sweep.say("a write of two ends, over a file", lambda place: in_file(program, WRITE, place), places, seed)
 
 
 if __name__ == "__main__":
-    if len(sys.argv) not in (2, 3):
-        sys.exit(__doc__)
-    main(os.path.abspath(sys.argv[1]), int(sys.argv[2]) if sys.argv[2:] else 1)
+    words = argparse.ArgumentParser(description=__doc__, formatter_class=argparse.RawDescriptionHelpFormatter)
+    words.add_argument("tao")
+    words.add_argument("--places", type=int)
+    words.add_argument("--draw", type=int, default=0)
+    words.add_argument("--beside", type=int, default=os.cpu_count() or 1)
+    given = words.parse_args()
+    main(os.path.abspath(given.tao), given.places, given.draw, given.beside)

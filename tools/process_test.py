@@ -11,6 +11,7 @@ import functools
 import itertools
 import json
 import os
+import pty
 import resource
 import signal
 import sqlite3
@@ -83,7 +84,7 @@ def rooms() -> Iterator[int]:
 
 class Words(unittest.TestCase):
     def test_help_and_version_are_0(self) -> None:
-        for words in (["--help"], ["-h"], ["run", "--help"], ["run", "-h"]):
+        for words in (["--help"], ["-h"], ["run", "--help"], ["run", "-h"], ["gen", "--help"], ["gen", "-h"]):
             done = tao(*words)
             self.assertEqual((done.returncode, done.stderr), (0, b""), words)
             self.assertIn(b"Usage: ", done.stdout, words)
@@ -95,6 +96,14 @@ class Words(unittest.TestCase):
         wrong: list[list[str | bytes]] = [
             [],
             ["gen"],
+            ["gen", "--seed", "7"],
+            ["gen", "--calls", "1"],
+            ["gen", "--seed", "7", "--calls", "0"],
+            ["gen", "--seed", "7", "--calls", "100001"],
+            ["gen", "--seed", "18446744073709551616", "--calls", "1"],
+            ["gen", "--seed", "07", "--calls", "1"],
+            ["gen", "--seed", "+7", "--calls", "1"],
+            ["gen", "--seed", "7", "--calls", "1", "--sql", "tables"],
             ["load"],
             ["serve"],
             ["ran"],
@@ -113,6 +122,37 @@ class Words(unittest.TestCase):
         with open("/dev/full", "wb") as full:
             self.assertEqual(tao("ran", stderr=full).returncode, 2)
         self.assertEqual(tao("ran", stderr=None, preexec_fn=lambda: os.close(2)).returncode, 2)
+
+
+class Generated(unittest.TestCase):
+    WORDS = ("gen", "--seed", "7", "--calls", "2000")
+    LINES = b'{"calls":2000,"ok":"gen","refused":296}\n{"logs":[1007],"ok":"settle"}\n'
+
+    def test_it_writes_two_lines_and_tells_nothing_in_a_pipe(self) -> None:
+        done = tao(*self.WORDS, input=script_of(CONFIGURATION))
+        self.assertEqual((done.returncode, done.stdout, done.stderr), (0, self.LINES, b""))
+
+    def test_it_ends_with_its_first_line_though_the_input_goes_on(self) -> None:
+        reading, writing = os.pipe()
+        os.write(writing, script_of(CONFIGURATION, OPENING))
+        try:
+            done = tao(*self.WORDS, stdin=reading)
+        finally:
+            os.close(reading)
+            os.close(writing)
+        self.assertEqual((done.returncode, done.stdout), (0, self.LINES))
+
+    def test_a_terminal_is_told_how_many_calls_are_done(self) -> None:
+        watcher, terminal = pty.openpty()
+        try:
+            done = tao(*self.WORDS, input=script_of(CONFIGURATION), stderr=terminal)
+            told = os.read(watcher, 4096)
+        finally:
+            os.close(watcher)
+            os.close(terminal)
+        self.assertEqual((done.returncode, done.stdout), (0, self.LINES))
+        self.assertIn(b"1000 of 2000 calls", told)
+        self.assertTrue(told.endswith(b"2000 of 2000 calls\r\n"), told)
 
 
 class Configuration(unittest.TestCase):

@@ -1,12 +1,12 @@
 -- Logs only grow: where no table changes, where one gains an entry, and by one thing after another.
-use Rattle.std.proofs.Common.{◌≡◌, ◌≢◌, ◌⊎◌, Bool, List, [], ◌∷◌, ◌++◌, length, take, sym, ap, ◌∙◌, subst, inl, inr, arith}
+use Rattle.std.proofs.Common.{◌≡◌, ◌≢◌, ◌⊎◌, Bool, true, List, [], ◌∷◌, ◌++◌, length, take, sym, ap, ◌∙◌, subst, inl, inr, arith}
 use Rattle.std.proofs.lemmas.Bool.{cases_eq}
 use Rattle.std.proofs.lemmas.List.{length-take, take-append-le, take-take, take_all}
 use Rattle.std.specs.Prelude.{Option}
 use Rattle.graph_model.specs.Told.{WhereTold}
 use Rattle.tao_base.specs.declared.entry.Entry.{Entry}
 use Rattle.tao_base.specs.declared.id.StoreName.{StoreName}
-use Rattle.tao_keeper.specs.Growing.{GrowingLaws, LogsGrow}
+use Rattle.tao_keeper.specs.Growing.{CutsStay, CutsStayLaws, GrowingLaws, LogsGrow}
 use Rattle.tao_keeper.specs.Table.{Becomes, Stays, Table, Tables, after_commit}
 use Rattle.tao_keeper.specs.declared.jobs.Job.{Job}
 
@@ -65,3 +65,22 @@ grow_in_turn tells old mid new first then = record {
 
 pub growing_laws : GrowingLaws
 growing_laws = record { stays = stays_grow; commits = commits_grow; same_log = same_logs_grow; in_turn = grow_in_turn }
+
+-- ---- no cut moves
+
+pub cuts_stay : (tells : Bool) (old new : Tables) → WhereTold tells (Stays old new) → CutsStay tells old new
+cuts_stay tells old new stays = record { cuts = λ told at. ap (λ (t : Table). t.cut) (stays told at) }
+
+pub same_cut : (tells : Bool) (old new : Tables) (at : StoreName) (table : Table) → table.cut ≡ (old at).cut
+    → WhereTold tells (Becomes old new at table) → CutsStay tells old new
+same_cut tells old new at table same becomes = record { cuts = λ told s. by told s (same_or_other s at) }
+  where
+    by : (told : tells ≡ true) (s : StoreName) → (s ≡ at) ⊎ (s ≢ at) → (new s).cut ≡ (old s).cut
+    by told s (inl is) = subst (λ n. (new n).cut ≡ (old n).cut) (sym is) (ap (λ (t : Table). t.cut) (becomes told).here ∙ same)
+    by told s (inr other) = ap (λ (t : Table). t.cut) ((becomes told).others s other)
+
+pub cuts_in_turn : (tells : Bool) (old mid new : Tables) → CutsStay tells old mid → CutsStay tells mid new → CutsStay tells old new
+cuts_in_turn tells old mid new first second = record { cuts = λ told at. second.cuts told at ∙ first.cuts told at }
+
+pub cuts_stay_laws : CutsStayLaws
+cuts_stay_laws = record { stays = cuts_stay; same_cut = same_cut; in_turn = cuts_in_turn }

@@ -5,7 +5,7 @@ use Rattle.tao_base.specs.declared.edge.Edge.{Edge}
 use Rattle.tao_base.specs.declared.entry.Entry.{Entry}
 use Rattle.tao_base.specs.declared.entry.Touch.{Touch}
 use Rattle.tao_keeper.specs.declared.jobs.Job.{Job}
-use Rattle.tao_keeper.specs.declared.keeper.TheConstants.{MOST_ENTRIES, STAMP_LIMIT}
+use Rattle.tao_keeper.specs.declared.keeper.TheConstants.{EPOCH_LIMIT, MOST_ENTRIES, REGION_LIMIT, STAMP_LIMIT}
 use Rattle.graph_model.specs.Edges.{IsInListOrder, number_of, state_left}
 use Rattle.graph_model.specs.Soundness.{EdgeUpdate}
 
@@ -38,3 +38,8 @@ pub record IsGivenEntry (e : Entry) : Type 0 where
   pub position : IsPosition e.position
   pub versions : All (λ t. t.version ≤ MOST_ENTRIES) e.touches
   pub stamps : HaveSmallStamps e.touches
+
+-- an epoch and a master region that are taken or given: no epoch is past the last, and no configuration has more regions
+pub record IsGivenRole (role : ℕ × ℕ) : Type 0 where
+  pub epoch : role.0 ≤ EPOCH_LIMIT
+  pub region : role.1 < REGION_LIMIT

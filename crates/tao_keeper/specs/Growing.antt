@@ -10,6 +10,10 @@ use Rattle.tao_keeper.specs.declared.jobs.Job.{Job}
 pub record LogsGrow (tells : Bool) (old new : Tables) : Type 0 where
   pub begins : WhereTold tells ((at : StoreName) → (old at).log ≡ take (length (old at).log) (new at).log)
 
+-- where they are told, no log's cut moves
+pub record CutsStay (tells : Bool) (old new : Tables) : Type 0 where
+  pub cuts : WhereTold tells ((at : StoreName) → (new at).cut ≡ (old at).cut)
+
 -- what makes logs grow
 pub record GrowingLaws : Type 0 where
   -- no table changes
@@ -22,3 +26,13 @@ pub record GrowingLaws : Type 0 where
       → WhereTold tells (Becomes old new at table) → LogsGrow tells old new
   -- one thing after another
   pub in_turn : (tells : Bool) (old mid new : Tables) → LogsGrow tells old mid → LogsGrow tells mid new → LogsGrow tells old new
+
+-- what moves no log's cut
+pub record CutsStayLaws : Type 0 where
+  -- no table changes
+  pub stays : (tells : Bool) (old new : Tables) → WhereTold tells (Stays old new) → CutsStay tells old new
+  -- a table changes, but for its cut
+  pub same_cut : (tells : Bool) (old new : Tables) (at : StoreName) (table : Table) → table.cut ≡ (old at).cut
+      → WhereTold tells (Becomes old new at table) → CutsStay tells old new
+  -- one thing after another
+  pub in_turn : (tells : Bool) (old mid new : Tables) → CutsStay tells old mid → CutsStay tells mid new → CutsStay tells old new

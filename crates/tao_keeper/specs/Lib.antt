@@ -1,3 +1,4 @@
+pub mod Cuts
 pub mod FailText
 pub mod Given
 pub mod Growing

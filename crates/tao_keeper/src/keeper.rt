@@ -1,13 +1,15 @@
 //! What a keeper is: the calls on the tables of the stores, and what they answer and change.
 ghost use Rattle.std.specs.Prelude.{◌≡◌, ◌≤◌, ◌<◌, Bool, length, take, drop, IfOk, IfSome};
 ghost use Rattle.graph_model.specs.Edges.{edge_list, edge_record, number_of};
-ghost use Rattle.graph_model.specs.Log.{object, version, entry_at, additions};
+ghost use Rattle.graph_model.specs.Log.{object, version, additions};
 ghost use Rattle.graph_model.specs.Soundness.{CanFollow, IsSound};
 ghost use Rattle.tao_base.specs.declared.id.StoreName.{StoreName as Store};
-ghost use Rattle.tao_keeper.specs.Given.{AreGiven, HaveSmallStamps, IsGivenEntry, IsGivenJob, IsPosition};
+ghost use Rattle.tao_keeper.specs.Given.{AreGiven, HaveSmallStamps, IsGivenEntry, IsGivenJob, IsGivenRole, IsPosition};
 ghost use Rattle.graph_model.specs.Told.{WhereTold};
 ghost use Rattle.tao_keeper.specs.KeeperState.{IsCall, KeeperState, KeepsTables};
-ghost use Rattle.tao_keeper.specs.Table.{AreOfEntries, Changes, IsLeastJob, IsJobAt, OpensAs, StandsAt, after_commit, after_end, after_open};
+ghost use Rattle.tao_keeper.specs.Table.{AreOfEntries, Changes, IsCutWithin, IsLeastJob, IsJobAt, OpensAs, ReachesLive, StandsAt};
+ghost use Rattle.tao_keeper.specs.Table.{after_commit, after_cut, after_cut_back, after_end, after_job, after_open, after_role, live_entry, old_entry};
+ghost use Rattle.tao_keeper.specs.Table.{role_store};
 
 use super::jobs::Job;
 use std::alloc::{AllocError, AllocFailed};
@@ -20,6 +22,12 @@ pub const MOST_ENTRIES: u64 = 65_536;
 
 /// The numbers of the stamps that a keeper takes and gives are below this.
 pub const STAMP_LIMIT: u64 = 1 << 62;
+
+/// The greatest epoch: so often can shards be promoted.
+pub const EPOCH_LIMIT: u64 = 1_000;
+
+/// The regions of a configuration are below this.
+pub const REGION_LIMIT: u16 = 4;
 
 /// The serials of objects are below this.
 pub const SERIAL_LIMIT: u64 = 1 << 48;
@@ -99,8 +107,10 @@ pub struct Commit {
     pub job: Option<Job>,
 }
 
-/// Keeps the tables of stores: their logs, the open jobs of their entries, and the lines that they were first opened with. A store that nothing was
-/// written to is empty.
+/// Keeps the tables of stores: their logs, the open jobs of their entries, the lines that they were first opened with, and of each shard its epoch and
+/// its master region, where it was ever promoted. A store that nothing was written to is empty.
+///
+/// A log has two parts: its old entries, up to the cut, and the live ones. What is read of keys, edges and origins is of both.
 ///
 /// Where a keeper tells its tables, each answer is what the log of the store gives. Each call but the two that read
 /// the counts is counted, whatever it answers.
@@ -167,18 +177,39 @@ pub trait Keeper {
         ensures stays { KeepsTables TELLS (state self.old) (state self.new) }
         ensures call { IsCall (state self.old) (state self.new) result };
 
-    /// How many entries the log has.
+    /// How many entries the log has, the old ones with the live ones.
     fn length(&mut self, at: StoreName) -> Result<u64, KeepFail>
         ensures answer { WhereTold TELLS (IfOk result (λ count. count ≡ length ((state self.old).told at).log)) }
         ensures few { IfOk result (λ count. count ≤ MOST_ENTRIES) }
         ensures stays { KeepsTables TELLS (state self.old) (state self.new) }
         ensures call { IsCall (state self.old) (state self.new) result };
 
-    /// The entry at a position, where there is one: none at 0 and past the end of the log.
+    /// The live entry at a position, where there is one: none up to the cut and past the end of the log.
     fn entry(&mut self, at: StoreName, position: u64) -> Result<Option<Entry>, KeepFail>
-        ensures answer { WhereTold TELLS (IfOk result (λ found. found ≡ entry_at ((state self.old).told at).log position)) }
+        ensures answer { WhereTold TELLS (IfOk result (λ found. found ≡ live_entry ((state self.old).told at) position)) }
         ensures given { IfOk result (λ found. IfSome found IsGivenEntry) }
         ensures stays { KeepsTables TELLS (state self.old) (state self.new) }
+        ensures call { IsCall (state self.old) (state self.new) result };
+
+    /// The old entry at a position, where there is one: none at 0 and past the cut.
+    fn old_entry(&mut self, at: StoreName, position: u64) -> Result<Option<Entry>, KeepFail>
+        ensures answer { WhereTold TELLS (IfOk result (λ found. found ≡ old_entry ((state self.old).told at) position)) }
+        ensures given { IfOk result (λ found. IfSome found IsGivenEntry) }
+        ensures stays { KeepsTables TELLS (state self.old) (state self.new) }
+        ensures call { IsCall (state self.old) (state self.new) result };
+
+    /// The cut: how many entries of the log are old, 0 at first.
+    fn cut_of(&mut self, at: StoreName) -> Result<u64, KeepFail>
+        ensures answer { WhereTold TELLS (IfOk result (λ cut. cut ≡ ((state self.old).told at).cut)) }
+        ensures few { IfOk result (λ cut. cut ≤ MOST_ENTRIES) }
+        ensures stays { KeepsTables TELLS (state self.old) (state self.new) }
+        ensures call { IsCall (state self.old) (state self.new) result };
+
+    /// Makes this the cut, in one transaction: the entries up to it become old.
+    fn cut(&mut self, at: StoreName, upto: u64) -> Result<(), KeepFail>
+        requires may { WhereTold TELLS (ReachesLive ((state self.old).told at) upto) }
+        requires few { upto ≤ MOST_ENTRIES }
+        ensures changes { WhereTold TELLS (Changes result (state self.old).told (state self.new).told at (after_cut ((state self.old).told at) upto)) }
         ensures call { IsCall (state self.old) (state self.new) result };
 
     /// The serial of the object that was added last: as many as were added, so 0 before the first.
@@ -225,6 +256,35 @@ pub trait Keeper {
             (after_commit ((state self.old).told at) commit.now.entry commit.now.job)) }
         ensures call { IsCall (state self.old) (state self.new) result };
 
+    /// The epoch and the master region of a shard: none where none was stored, which means the first epoch and the configured master.
+    fn role(&mut self, shard: u16) -> Result<Option<(u64, u16)>, KeepFail>
+        ensures answer { WhereTold TELLS (IfOk result (λ role. role ≡ ((state self.old).told (role_store shard)).role)) }
+        ensures given { IfOk result (λ role. IfSome role IsGivenRole) }
+        ensures stays { KeepsTables TELLS (state self.old) (state self.new) }
+        ensures call { IsCall (state self.old) (state self.new) result };
+
+    /// Stores the epoch and the master region of a shard.
+    fn set_role(&mut self, shard: u16, epoch: u64, region: u16) -> Result<(), KeepFail>
+        requires given { IsGivenRole (epoch, region) }
+        ensures changes { WhereTold TELLS (Changes result (state self.old).told (state self.new).told (role_store shard)
+            (after_role ((state self.old).told (role_store shard)) epoch region)) }
+        ensures call { IsCall (state self.old) (state self.new) result };
+
+    /// Opens a job of an entry of the log. Nothing changes where one of that position is open.
+    fn open_job(&mut self, at: StoreName, job: &Job) -> Result<(), KeepFail>
+        requires given { IsGivenJob job.now }
+        requires within { WhereTold TELLS (job.now.position ≤ length ((state self.old).told at).log) }
+        ensures changes { WhereTold TELLS (Changes result (state self.old).told (state self.new).told at (after_job ((state self.old).told at) job.now)) }
+        ensures call { IsCall (state self.old) (state self.new) result };
+
+    /// Takes away the entries past that length, with their jobs and origins, in one transaction: the tables are then what the rest gives. Where an epoch is
+    /// given, a row of what was lost is stored with it: the epoch, the length, and the entries that were taken away.
+    fn cut_back(&mut self, at: StoreName, length: u64, row: Option<u64>) -> Result<(), KeepFail>
+        requires may { WhereTold TELLS (ReachesLive ((state self.old).told at) length) }
+        ensures changes { WhereTold TELLS (Changes result (state self.old).told (state self.new).told at
+            (after_cut_back ((state self.old).told at) length row)) }
+        ensures call { IsCall (state self.old) (state self.new) result };
+
     /// How many calls there were.
     fn calls(&self) -> u64
         ensures { result ≡ (state self.now).calls };
@@ -235,6 +295,9 @@ pub trait Keeper {
 
     /// Each log that is told is sound.
     ghost sound: { (keeper : Self) (at : Store) → WhereTold TELLS (IsSound ((state keeper).told at).log) };
+
+    /// Each log that is told has the entries that are old.
+    ghost cut_within: { (keeper : Self) (at : Store) → WhereTold TELLS (IsCutWithin ((state keeper).told at)) };
 
     /// Each open job that is told is of an entry of its store's log.
     ghost of_entries: { (keeper : Self) (at : Store) → WhereTold TELLS (AreOfEntries ((state keeper).told at)) };

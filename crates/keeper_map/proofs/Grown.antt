@@ -4,11 +4,11 @@ use Rattle.std.proofs.Common.{sym, subst, arith}
 use Rattle.std.proofs.lemmas.Bool.{cases_Bool}
 use Rattle.std.proofs.lemmas.Bool.Decides.{nat_tests}
 use Rattle.std.proofs.lemmas.List.Elements.{All-push}
-use Rattle.std.specs.Prelude.{Option, Some, None, Result, Ok, Err, All, IfSome, is_err, is_ok, ◌==◌}
+use Rattle.std.specs.Prelude.{Option, Some, None, Result, Ok, Err, All, IfSome, is_err, is_ok, is_some, ◌==◌}
 use Rattle.tao_base.specs.declared.entry.Entry.{Entry}
 use Rattle.graph_model.proofs.Sound.{sound_grows}
 use Rattle.graph_model.specs.Soundness.{CanFollow, EdgeUpdate, IsSound}
-use Rattle.tao_keeper.specs.Table.{Jobs, with_job, with_new_job}
+use Rattle.tao_keeper.specs.Table.{Jobs, with_job, with_new_job, with_opened}
 use Rattle.tao_keeper.specs.declared.jobs.Job.{Job}
 
 -- a fact that the longer log has too
@@ -55,6 +55,21 @@ still_of_entries true log now entry jobs after job log_is jobs_is follows of_ent
 -- a job that is ended leaves none where there was none
 pub ended_of_entries : (jobs : Jobs) (at position : ℕ) → jobs position ≡ None → with_job jobs at None position ≡ None
 ended_of_entries jobs at position none = elim (cases_Bool (position == at)) [ inl h ↦ rw h refl | inr h ↦ rw h none ]
+
+-- a job that is opened where none is
+pub opened_first : (jobs : Jobs) (job : Job) → jobs job.position ≡ None → with_opened jobs job ≡ with_job jobs job.position (Some job.edges)
+opened_first jobs job none = rw none refl
+
+-- a job of an entry of the log that may have been opened leaves the open jobs those of entries
+pub opened_of_entries : (done : Bool) (log : List Entry) (jobs after : Jobs) (job : Job) → after ≡ cond done (with_opened jobs job) jobs
+    → job.position ≤ length log
+    → ((position : ℕ) → length log < position → jobs position ≡ None) → (position : ℕ) → length log < position → after position ≡ None
+opened_of_entries false log jobs after job is within of_entries position past = ap (λ j. j position) is ∙ of_entries position past
+opened_of_entries true log jobs after job is within of_entries position past = ap (λ j. j position) is ∙ opens (is_some (jobs job.position))
+  where
+    opens : (here : Bool) → cond here jobs (with_job jobs job.position (Some job.edges)) position ≡ None
+    opens true = of_entries position past
+    opens false = let apart : (position == job.position) ≡ false = grind (arith, nat_tests) in rw apart (of_entries position past)
 
 -- a job that is opened and ended
 pub closed_again : (jobs : Jobs) (at : ℕ) (given : Option (List EdgeUpdate)) → jobs at ≡ None → (position : ℕ)

@@ -5,7 +5,7 @@ use Rattle.std.specs.BTreeMap.{BTreeMap, IsLowerBound, IsUnchanged, Updates, get
 use Rattle.std.specs.Map.{lookup}
 use Rattle.std.specs.Option.{option_map}
 use Rattle.std.specs.Ordering.{is_eq, is_gt, nat_cmp}
-use Rattle.std.specs.Prelude.{Option, Some, None, Result, Ok, Err, IsSome, OnErr, OnOk, ◌==◌}
+use Rattle.std.specs.Prelude.{Option, Some, None, Result, Ok, Err, IsSome, OnErr, OnOk, ◌==◌, nat_le}
 use Rattle.tao_keeper.specs.Given.{IsGivenJob}
 use Rattle.tao_keeper.specs.Table.{IsLeastJob, IsJobAt}
 use Rattle.tao_keeper.specs.declared.jobs.Job.{Job}
@@ -56,3 +56,17 @@ still_stand_opened (Ok x) job old new done failed stand given =
     still_stand job.position (Some job) old new done.0 stand
     (λ other h. let same : job ≡ other = cc in subst (IsGivenJobAt job.position) same (record { position_is = refl; given = given }))
 still_stand_opened (Err e) job old new done failed stand given = λ q other h. stand q other (ap (λ es. lookup (is_at (nat_cmp q)) es) (sym failed) ∙ h)
+
+-- ---- the jobs up to a position
+
+-- a position that is found at one lies within the same bounds
+pub same_within : (position found last : ℕ) → is_at (nat_cmp position) found ≡ true → nat_le found last ≡ nat_le position last
+same_within position found last here = let same : position ≡ found = grind (arith, nat_tests) in ap (λ n. nat_le n last) (sym same)
+
+pub still_stand_within : (last : ℕ) (old new : BTreeMap ℕ Job)
+    → ((position : ℕ) → get nat_cmp new position ≡ cond (nat_le position last) (get nat_cmp old position) None) → StandAtPositions old → StandAtPositions new
+still_stand_within last old new step stand position job h = by (nat_le position last) (sym (step position) ∙ h)
+  where
+    by : (b : Bool) → cond b (get nat_cmp old position) None ≡ Some job → IsGivenJobAt position job
+    by true found = stand position job found
+    by false found = absurd (cc)

@@ -1,3 +1,4 @@
+pub mod CutBack
 pub mod Few
 pub mod Given
 pub mod Grown

@@ -65,27 +65,25 @@ pub told_there : (old mid : Stored) (at : StoreName) (before : StoreTable) → S
     → table_of before ≡ tables_of old at
 told_there old mid at before stays found = sym (ap told found) ∙ stays at
 
--- how a call of a store's table ended, after there was one
-pub changes_there : {T E : Type 0} (result : Result T E) (old mid new : Stored) (at : StoreName) (before now : StoreTable) (after : Table → Table)
-    → Stays (tables_of old) (tables_of mid) → get store_cmp mid (store_key at) ≡ Some before → Puts at now mid new
-    → table_of now ≡ cond (is_ok result) (after (table_of before)) (table_of before)
-    → Changes result (tables_of old) (tables_of new) at (after (tables_of old at))
-changes_there (Ok x) old mid new at before now after stays found step is =
+-- a store's table is changed, after there was one
+pub becomes_there : (old mid new : Stored) (at : StoreName) (before now : StoreTable) (after : Table → Table) → Stays (tables_of old) (tables_of mid)
+    → get store_cmp mid (store_key at) ≡ Some before → Puts at now mid new → table_of now ≡ after (table_of before)
+    → Becomes (tables_of old) (tables_of new) at (after (tables_of old at))
+becomes_there old mid new at before now after stays found step is =
     let changed = put_becomes at now mid new step in
     record {
       here = changed.here ∙ is ∙ ap after (told_there old mid at before stays found);
       others = λ name apart. changed.others name apart ∙ stays name;
     }
+
+-- how a call of a store's table ended, after there was one
+pub changes_there : {T E : Type 0} (result : Result T E) (old mid new : Stored) (at : StoreName) (before now : StoreTable) (after : Table → Table)
+    → Stays (tables_of old) (tables_of mid) → get store_cmp mid (store_key at) ≡ Some before → Puts at now mid new
+    → table_of now ≡ cond (is_ok result) (after (table_of before)) (table_of before)
+    → Changes result (tables_of old) (tables_of new) at (after (tables_of old at))
+changes_there (Ok x) old mid new at before now after stays found step is = becomes_there old mid new at before now after stays found step is
 changes_there (Err e) old mid new at before now after stays found step is =
     λ name. put_stays at now mid new step (is ∙ sym (ap told found)) name ∙ stays name
-
--- a job that is ended in a store's table
-pub ends_there : (old new : Stored) (at : StoreName) (before now : StoreTable) (position : ℕ) → get store_cmp old (store_key at) ≡ Some before
-    → Puts at now old new
-    → table_of now ≡ after_end (table_of before) position → Becomes (tables_of old) (tables_of new) at (after_end (tables_of old at) position)
-ends_there old new at before now position found step is =
-    let changed = put_becomes at now old new step in
-    record { here = changed.here ∙ is ∙ ap (λ t. after_end t position) (sym (ap told found)); others = changed.others }
 
 -- where a store has no table no job is open
 pub nothing_ends : (stores : Stored) (at : StoreName) (position : ℕ) → get store_cmp stores (store_key at) ≡ None
@@ -94,7 +92,7 @@ nothing_ends stores at position none =
     let empty : tables_of stores at ≡ empty_table = ap told none in
     record {
       here = subst (λ t. t ≡ after_end t position) (sym empty)
-          (λ i. record { log = empty_table.log; jobs = λ p. sym (ended_of_entries empty_table.jobs position p refl) i; line = empty_table.line });
+          (λ i. record empty_table { jobs = λ p. sym (ended_of_entries empty_table.jobs position p refl) i });
       others = λ name apart. refl;
     }
 

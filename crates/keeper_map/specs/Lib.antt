@@ -1,4 +1,5 @@
 pub mod Jobs
+pub mod Lost
 pub mod MapKeeper
 pub mod OpenJobs
 pub mod Plan

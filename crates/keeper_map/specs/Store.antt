@@ -9,9 +9,17 @@ use Rattle.tao_keeper.specs.Table.{Table, Tables, empty_table}
 use Rattle.keeper_map.specs.OpenJobs.{jobs_of}
 use Rattle.keeper_map.specs.declared.store.StoreTable.{StoreTable}
 
--- the table of a store, as contracts see it: its log, its open jobs, and the line that it was first opened with
+-- the table of a store, as contracts see it: its log and its cut, its open jobs, the line that it was first opened with, what promotions took away, and
+-- the epoch and the master region of its shard
 abbrev pub table_of : StoreTable → Table
-table_of store = record { log = store.log; jobs = jobs_of store.jobs; line = option_map (λ line. line.items) store.line }
+table_of store = record {
+  log = store.log;
+  cut = store.cut;
+  jobs = jobs_of store.jobs;
+  line = option_map (λ line. line.items) store.line;
+  lost = store.lost.items;
+  role = store.role;
+}
 
 -- what a store's table is found by: its region and its shard. It stays folded, so that a fact of all stores is found for each one
 unfoldable pub store_key : StoreName → ℕ × ℕ

@@ -1,6 +1,9 @@
 //! The open jobs of one store, in memory.
 ghost use Rattle.std.proofs.Props.{props};
 ghost use Rattle.keeper_map.specs.Jobs.{StandAtPositions};
+ghost use Rattle.std.specs.BTreeMap.{get};
+ghost use Rattle.std.specs.Ordering.{nat_cmp};
+ghost use Rattle.std.specs.Prelude.{◌≡◌, ℕ, None, if◌then◌else◌, nat_le};
 
 use std::alloc::{AllocError, Global};
 use std::collections::BTreeMap;
@@ -14,9 +17,9 @@ pub struct OpenJobs {
 }
 
 impl OpenJobs {
-    ghost use Rattle.std.specs.Prelude.{◌≡◌, ◌≤◌, ℕ, IfSome, None, Some, is_ok, if◌then◌else◌, option_copied};
+    ghost use Rattle.std.specs.Prelude.{IfSome, is_ok, option_copied};
     ghost use Rattle.keeper_map.specs.OpenJobs.{jobs_of};
-    ghost use Rattle.tao_keeper.specs.Table.{IsLeastJob, IsJobAt, with_job};
+    ghost use Rattle.tao_keeper.specs.Table.{IsLeastJob, IsJobAt, jobs_within, with_job, with_opened};
     ghost use Rattle.tao_keeper.specs.Given.{IsGivenJob};
 
     /// No job is open.
@@ -45,12 +48,14 @@ impl OpenJobs {
         self.jobs.get(&position)
     }
 
-    /// Opens a job, whose position is past those of all others.
+    /// Opens a job, unless one of its position is open.
     pub fn open(&mut self, job: Job) -> Result<(), AllocError>
-        requires given { IsGivenJob job }
-        requires last { (position : ℕ) → job.position ≤ position → jobs_of self.old position ≡ None }
-        ensures { jobs_of self.new ≡ (if is_ok result then with_job (jobs_of self.old) job.position (Some job.edges) else jobs_of self.old) }
+        requires { IsGivenJob job }
+        ensures { jobs_of self.new ≡ (if is_ok result then with_opened (jobs_of self.old) job else jobs_of self.old) }
     {
+        if self.jobs.contains_key(&job.position) {
+            return Ok(());
+        }
         self.jobs.insert(job.position, job)?;
         Ok(())
     }
@@ -61,4 +66,18 @@ impl OpenJobs {
     {
         self.jobs.remove(&position);
     }
+
+    /// Ends the jobs of all positions past this one.
+    pub fn end_past(&mut self, last: u64)
+        ensures { jobs_of self.new ≡ jobs_within (jobs_of self.old) last }
+    {
+        retain_within(&mut self.jobs, last);
+    }
+}
+
+/// Keeps the jobs up to a position.
+fn retain_within(jobs: &mut BTreeMap<u64, Job>, last: u64)
+    ensures { (position : ℕ) → get nat_cmp jobs.new position ≡ (if nat_le position last then get nat_cmp jobs.old position else None) }
+{
+    jobs.retain(|position, _| *position <= last);
 }

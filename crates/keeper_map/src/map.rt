@@ -1,16 +1,16 @@
 //! The keeper in memory.
 ghost use Rattle.std.specs.Prelude.{◌≡◌, ◌≤◌, ◌<◌, false, IfOk, IfSome, drop, length, option_copied, take};
 ghost use Rattle.graph_model.specs.Edges.{edge_list, edge_record, number_of};
-ghost use Rattle.graph_model.specs.Log.{object, version, entry_at, additions};
+ghost use Rattle.graph_model.specs.Log.{object, version, additions};
 ghost use Rattle.graph_model.specs.Soundness.{CanFollow};
 ghost use Rattle.tao_base.specs.declared.id.StoreName.{StoreName as Store};
-ghost use Rattle.tao_keeper.specs.Given.{AreGiven, HaveSmallStamps, IsGivenEntry, IsGivenJob, IsPosition};
+ghost use Rattle.tao_keeper.specs.Given.{AreGiven, HaveSmallStamps, IsGivenEntry, IsGivenJob, IsGivenRole, IsPosition};
 ghost use Rattle.keeper_map.specs.MapKeeper.{call_plan, shown_by, told_by};
 ghost use Rattle.counts.specs.Planned.{from_one};
 ghost use Rattle.keeper_map.specs.Plan.{CallsAsPlanned, CommitsAsPlanned, mended};
-ghost use Rattle.tao_keeper.specs.Table.{Changes, IsLeastJob, IsJobAt, OpensAs, StandsAt, Stays, after_commit, after_end, after_open, empty_table};
+ghost use Rattle.tao_keeper.specs.Table.{Changes, IsLeastJob, IsJobAt, OpensAs, ReachesLive, StandsAt, Stays, empty_table, live_entry, old_entry, role_store};
+ghost use Rattle.tao_keeper.specs.Table.{after_commit, after_cut, after_cut_back, after_end, after_job, after_open, after_role};
 
-use crate::log;
 use crate::plan::{Fails, FaultPlan};
 use crate::stores::StoreTables;
 use std::alloc::{AllocError, Global};
@@ -21,7 +21,8 @@ use tao_keeper::{Commit, Job, KeepFail, Keeper, MOST_ENTRIES, Opened, SERIAL_LIM
 ///
 /// No call copies a log. Each finds its store by one look-up, and what it asks of the graph by a look-up or two in the
 /// log's index; what more it takes is said at the call. Only a call that the plan fails goes through the plan's numbers.
-/// Where there was no memory for the index each call reads the log itself, until the next commit makes the index anew.
+/// Where there was no memory for the index each call reads the log itself, until the next call that changes the log
+/// makes the index anew.
 #[derive(Drop)]
 pub struct MapKeeper {
     stores: StoreTables,
@@ -54,7 +55,7 @@ impl MapKeeper {
     }
 }
 
-fn copied(job: Option<&Job>) -> Result<Option<Job>, AllocError>
+fn copied_job(job: Option<&Job>) -> Result<Option<Job>, AllocError>
     ensures { IfOk result (λ copy. copy ≡ option_copied job.entry) }
 {
     match job {
@@ -63,9 +64,18 @@ fn copied(job: Option<&Job>) -> Result<Option<Job>, AllocError>
     }
 }
 
+fn copied_entry(entry: Option<&Entry>) -> Result<Option<Entry>, AllocError>
+    ensures { IfOk result (λ copy. copy ≡ option_copied entry.entry) }
+{
+    match entry {
+        Some(entry) => Ok(Some(entry.clone()?)),
+        None => Ok(None),
+    }
+}
+
 impl Keeper for MapKeeper {
     ghost use Rattle.std.specs.Prelude.{true};
-    ghost use Rattle.keeper_map.specs.StoreLaws.{told_of_entries, told_sound};
+    ghost use Rattle.keeper_map.specs.StoreLaws.{told_cut_within, told_of_entries, told_sound};
 
     const TELLS: bool = true;
 
@@ -74,6 +84,8 @@ impl Keeper for MapKeeper {
     ghost state = { shown_by };
 
     ghost sound = { λ keeper at _. told_sound keeper.stores.tables at };
+
+    ghost cut_within = { λ keeper at _. told_cut_within keeper.stores.tables at };
 
     ghost of_entries = { λ keeper at _. told_of_entries keeper.stores.tables at };
 
@@ -167,13 +179,46 @@ impl Keeper for MapKeeper {
 
     /// Reads no other entry, and copies this one.
     fn entry(&mut self, at: StoreName, position: u64) -> Result<Option<Entry>, KeepFail>
-        ensures answer { IfOk result (λ found. found ≡ entry_at (told_by self.old at).log position) }
+        ensures answer { IfOk result (λ found. found ≡ live_entry (told_by self.old at) position) }
         ensures given { IfOk result (λ found. IfSome found IsGivenEntry) }
         ensures stays { Stays (told_by self.old) (told_by self.new) }
         ensures plan { CallsAsPlanned (call_plan self.old) (call_plan self.new) result }
     {
         self.plan.begin_call()?;
-        Ok(log::entry_of(self.stores.log(at).as_slice(), position)?)
+        Ok(copied_entry(self.stores.entry(at, position))?)
+    }
+
+    /// Reads no other entry, and copies this one. Old entries lie in memory with the live ones.
+    fn old_entry(&mut self, at: StoreName, position: u64) -> Result<Option<Entry>, KeepFail>
+        ensures answer { IfOk result (λ found. found ≡ old_entry (told_by self.old at) position) }
+        ensures given { IfOk result (λ found. IfSome found IsGivenEntry) }
+        ensures stays { Stays (told_by self.old) (told_by self.new) }
+        ensures plan { CallsAsPlanned (call_plan self.old) (call_plan self.new) result }
+    {
+        self.plan.begin_call()?;
+        Ok(copied_entry(self.stores.old_entry(at, position))?)
+    }
+
+    /// Reads no entry, and takes no memory.
+    fn cut_of(&mut self, at: StoreName) -> Result<u64, KeepFail>
+        ensures answer { IfOk result (λ cut. cut ≡ (told_by self.old at).cut) }
+        ensures few { IfOk result (λ cut. cut ≤ MOST_ENTRIES) }
+        ensures stays { Stays (told_by self.old) (told_by self.new) }
+        ensures plan { CallsAsPlanned (call_plan self.old) (call_plan self.new) result }
+    {
+        self.plan.begin_call()?;
+        Ok(self.stores.cut_of(at))
+    }
+
+    /// Sets one number: moves no entry, takes no memory and gives none back.
+    fn cut(&mut self, at: StoreName, upto: u64) -> Result<(), KeepFail>
+        requires may { ReachesLive (told_by self.old at) upto }
+        ensures changes { Changes result (told_by self.old) (told_by self.new) at (after_cut (told_by self.old at) upto) }
+        ensures plan { CallsAsPlanned (call_plan self.old) (call_plan self.new) result }
+    {
+        self.plan.begin_call()?;
+        self.stores.set_cut(at, upto);
+        Ok(())
     }
 
     /// Reads no entry, and takes no memory.
@@ -206,7 +251,7 @@ impl Keeper for MapKeeper {
         ensures plan { CallsAsPlanned (call_plan self.old) (call_plan self.new) result }
     {
         self.plan.begin_call()?;
-        Ok(copied(self.stores.first_job(at))?)
+        Ok(copied_job(self.stores.first_job(at))?)
     }
 
     /// One look-up, and copies this one.
@@ -217,7 +262,7 @@ impl Keeper for MapKeeper {
         ensures plan { CallsAsPlanned (call_plan self.old) (call_plan self.new) result }
     {
         self.plan.begin_call()?;
-        Ok(copied(self.stores.job(at, position))?)
+        Ok(copied_job(self.stores.job(at, position))?)
     }
 
     /// One look-up, which takes no memory.
@@ -231,7 +276,7 @@ impl Keeper for MapKeeper {
     }
 
     /// Copies the entry that is added and its job, and for the index the objects and edges that the entry sets. Two
-    /// look-ups for each key that it touches, and one for its origin.
+    /// look-ups for each key that it touches and for its job's position, and one for its origin.
     fn commit(&mut self, at: StoreName, commit: &Commit) -> Result<(), KeepFail>
         requires stamps { HaveSmallStamps commit.now.entry.touches }
         requires job { IfSome commit.now.job (λ job. job.position ≡ commit.now.entry.position) }
@@ -243,9 +288,54 @@ impl Keeper for MapKeeper {
     {
         self.plan.begin_commit()?;
         let entry = commit.entry.clone()?;
-        let job = copied(commit.job.as_ref())?;
+        let job = copied_job(commit.job.as_ref())?;
         self.stores.add(at, entry, job)?;
         Ok(())
+    }
+
+    /// Takes no memory.
+    fn role(&mut self, shard: u16) -> Result<Option<(u64, u16)>, KeepFail>
+        ensures answer { IfOk result (λ role. role ≡ (told_by self.old (role_store shard)).role) }
+        ensures given { IfOk result (λ role. IfSome role IsGivenRole) }
+        ensures stays { Stays (told_by self.old) (told_by self.new) }
+        ensures plan { CallsAsPlanned (call_plan self.old) (call_plan self.new) result }
+    {
+        self.plan.begin_call()?;
+        Ok(self.stores.role(shard))
+    }
+
+    /// Takes memory for the first region's store of the shard alone, where nothing was written to it.
+    fn set_role(&mut self, shard: u16, epoch: u64, region: u16) -> Result<(), KeepFail>
+        requires given { IsGivenRole (epoch, region) }
+        ensures changes { Changes result (told_by self.old) (told_by self.new) (role_store shard)
+            (after_role (told_by self.old (role_store shard)) epoch region) }
+        ensures plan { CallsAsPlanned (call_plan self.old) (call_plan self.new) result }
+    {
+        self.plan.begin_call()?;
+        Ok(self.stores.set_role(shard, epoch, region)?)
+    }
+
+    /// Copies the job, and does two look-ups for its position.
+    fn open_job(&mut self, at: StoreName, job: &Job) -> Result<(), KeepFail>
+        requires given { IsGivenJob job.now }
+        requires within { job.now.position ≤ length (told_by self.old at).log }
+        ensures changes { Changes result (told_by self.old) (told_by self.new) at (after_job (told_by self.old at) job.now) }
+        ensures plan { CallsAsPlanned (call_plan self.old) (call_plan self.new) result }
+    {
+        self.plan.begin_call()?;
+        let job = job.clone()?;
+        Ok(self.stores.open_job(at, job)?)
+    }
+
+    /// Moves the entries that are taken away into their row, where one is asked for, and else drops them. Goes over all open
+    /// jobs, and makes the index anew, which reads all entries that are left. Takes memory for the row, and for the index.
+    fn cut_back(&mut self, at: StoreName, length: u64, row: Option<u64>) -> Result<(), KeepFail>
+        requires may { ReachesLive (told_by self.old at) length }
+        ensures changes { Changes result (told_by self.old) (told_by self.new) at (after_cut_back (told_by self.old at) length row) }
+        ensures plan { CallsAsPlanned (call_plan self.old) (call_plan self.new) result }
+    {
+        self.plan.begin_call()?;
+        Ok(self.stores.cut_back(at, length, row)?)
     }
 
     fn calls(&self) -> u64 {

@@ -2,10 +2,11 @@
 ghost use Rattle.std.specs.Prelude.{[], ◌≡◌, ◌<◌, ◌≤◌, All, IfOk, IfSome, IsSome, OnOk, length, option_copied};
 ghost use Rattle.graph_model.specs.Soundness.{CanFollow, IsSound};
 ghost use Rattle.tao_base.specs.declared.id.StoreName.{StoreName as Store};
-ghost use Rattle.tao_keeper.specs.Given.{HaveSmallStamps, IsGivenJob};
+ghost use Rattle.tao_keeper.specs.Given.{HaveSmallStamps, IsGivenEntry, IsGivenJob, IsGivenRole};
 ghost use Rattle.keeper_map.specs.Store.{store_cmp, store_key, tables_of};
 ghost use Rattle.std.specs.BTreeMap.{get};
-ghost use Rattle.tao_keeper.specs.Table.{Becomes, Changes, IsLeastJob, IsJobAt, OpensAs, Stays, after_commit, after_end, after_open, empty_table};
+ghost use Rattle.tao_keeper.specs.Table.{Becomes, Changes, IsLeastJob, IsJobAt, OpensAs, ReachesLive, Stays, empty_table, live_entry, old_entry, role_store};
+ghost use Rattle.tao_keeper.specs.Table.{after_commit, after_cut, after_cut_back, after_end, after_job, after_open, after_role};
 
 use super::store::StoreTable;
 use log_index::IndexedLog;
@@ -80,6 +81,66 @@ impl StoreTables {
         }
     }
 
+    /// How many entries of a store are old.
+    pub fn cut_of(&self, at: StoreName) -> u64
+        ensures cut { result ≡ (tables_of self.now.tables at).cut }
+        ensures few { result ≤ MOST_ENTRIES }
+    {
+        match self.table(at) {
+            Some(table) => table.cut_of(),
+            None => 0,
+        }
+    }
+
+    /// Makes this a store's cut. A store that nothing was written to has no other cut than 0.
+    pub fn set_cut(&mut self, at: StoreName, upto: u64)
+        requires { ReachesLive (tables_of self.old.tables at) upto }
+        ensures { Becomes (tables_of self.old.tables) (tables_of self.new.tables) at (after_cut (tables_of self.old.tables at) upto) }
+    {
+        if let Some(table) = self.tables.get_mut(&key_of(at)) {
+            table.set_cut(upto);
+        }
+    }
+
+    /// The live entry at a position in a store.
+    pub fn entry(&self, at: StoreName, position: u64) -> Option<&Entry>
+        ensures entry { option_copied result ≡ live_entry (tables_of self.now.tables at) position }
+        ensures given { IfSome (option_copied result) IsGivenEntry }
+    {
+        self.table(at)?.entry(position)
+    }
+
+    /// The old entry at a position in a store.
+    pub fn old_entry(&self, at: StoreName, position: u64) -> Option<&Entry>
+        ensures entry { option_copied result ≡ old_entry (tables_of self.now.tables at) position }
+        ensures given { IfSome (option_copied result) IsGivenEntry }
+    {
+        self.table(at)?.old_entry(position)
+    }
+
+    /// The epoch and the master region of a shard.
+    pub fn role(&self, shard: u16) -> Option<(u64, u16)>
+        ensures role { result ≡ (tables_of self.now.tables (role_store shard)).role }
+        ensures given { IfSome result IsGivenRole }
+    {
+        self.table(first_store(shard))?.role()
+    }
+
+    /// Stores the epoch and the master region of a shard.
+    pub fn set_role(&mut self, shard: u16, epoch: u64, region: u16) -> Result<(), AllocError>
+        requires { IsGivenRole (epoch, region) }
+        ensures { Changes result (tables_of self.old.tables) (tables_of self.new.tables) (role_store shard)
+            (after_role (tables_of self.old.tables (role_store shard)) epoch region) }
+    {
+        let at = first_store(shard);
+        self.make_table(at)?;
+        match self.tables.get_mut(&key_of(at)) {
+            Some(table) => table.set_role(epoch, region),
+            None => unreachable!(),
+        }
+        Ok(())
+    }
+
     /// The open job of the least position in a store.
     pub fn first_job(&self, at: StoreName) -> Option<&Job>
         ensures job { IsLeastJob (tables_of self.now.tables at).jobs (option_copied result) }
@@ -106,6 +167,34 @@ impl StoreTables {
         }
     }
 
+    /// Opens a job in a store, unless one of its position is open. An error doesn't.
+    pub fn open_job(&mut self, at: StoreName, job: Job) -> Result<(), AllocError>
+        requires given { IsGivenJob job }
+        requires within { job.position ≤ length (tables_of self.old.tables at).log }
+        ensures { Changes result (tables_of self.old.tables) (tables_of self.new.tables) at
+            (after_job (tables_of self.old.tables at) job) }
+    {
+        self.make_table(at)?;
+        match self.tables.get_mut(&key_of(at)) {
+            Some(table) => table.open_job(job),
+            None => unreachable!(),
+        }
+    }
+
+    /// Takes away the entries of a store past a length, with their jobs, and keeps them as a row of what was lost, where an
+    /// epoch is given. An error does nothing.
+    pub fn cut_back(&mut self, at: StoreName, len: u64, row: Option<u64>) -> Result<(), AllocError>
+        requires { ReachesLive (tables_of self.old.tables at) len }
+        ensures { Changes result (tables_of self.old.tables) (tables_of self.new.tables) at
+            (after_cut_back (tables_of self.old.tables at) len row) }
+    {
+        self.make_table(at)?;
+        match self.tables.get_mut(&key_of(at)) {
+            Some(table) => table.cut_back(len, row),
+            None => unreachable!(),
+        }
+    }
+
     /// Adds an entry at the end of a store's log, and opens its job, where it has one. An error does neither.
     pub fn add(&mut self, at: StoreName, entry: Entry, job: Option<Job>) -> Result<(), AllocError>
         requires stamps { HaveSmallStamps entry.touches }
@@ -122,6 +211,13 @@ impl StoreTables {
             None => unreachable!(),
         }
     }
+}
+
+/// The store that keeps the epoch and the master region of a shard.
+fn first_store(shard: u16) -> StoreName
+    ensures { result ≡ role_store shard }
+{
+    StoreName { region: 0, shard }
 }
 
 #[tactic(auto, unfolding(crate::specs::Store::store_key))]

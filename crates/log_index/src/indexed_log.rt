@@ -1,5 +1,5 @@
 //! A log with its index.
-ghost use Rattle.std.specs.Prelude.{[], ◌≡◌, ◌∷◌, ◌++◌, if◌then◌else◌, IfOk, drop, is_ok, length, take};
+ghost use Rattle.std.specs.Prelude.{[], ◌≡◌, ◌≤◌, ◌∷◌, ◌++◌, if◌then◌else◌, IfOk, drop, is_ok, length, take};
 ghost use Rattle.graph_model.specs.Edges.{edge_list, edge_record};
 ghost use Rattle.graph_model.specs.Log.{additions, object, version};
 ghost use Rattle.graph_model.specs.Soundness.{IsSound};
@@ -12,7 +12,7 @@ use std::marker::Model;
 use tao_base::{AType, EdgeState, Edges, Entry, Id, Key, Object, Origin, OutOfMemory};
 
 /// A log, with its index where there was memory for one. Without, each answer is read from the entries themselves, and
-/// the next entry makes the index anew.
+/// the next change makes the index anew.
 #[derive(Drop)]
 pub struct IndexedLog {
     alloc: Global,
@@ -76,6 +76,28 @@ impl IndexedLog {
         self.added = added;
         self.index = index;
         Ok(())
+    }
+
+    /// Keeps so many first entries, and takes away those past them. Makes the index anew, which reads all entries that are
+    /// left; it is lost where there is no memory for it.
+    pub fn truncate(&mut self, count: u64)
+        ensures { self.new ≡ take count self.old }
+    {
+        self.entries.truncate(count as usize);
+        self.added = plain::additions_of(&self.entries);
+        self.index = Index::of(self.alloc, &self.entries).ok();
+    }
+
+    /// Does the same, and gives what was taken away, for which it takes memory. An error changes nothing.
+    pub fn split_off(&mut self, count: u64) -> Result<Vec<Entry>, AllocError>
+        requires { count ≤ length self.old }
+        ensures log { self.new ≡ (if is_ok result then take count self.old else self.old) }
+        ensures taken { IfOk result (λ taken. taken.items ≡ drop count self.old) }
+    {
+        let taken = self.entries.split_off(count as usize)?;
+        self.added = plain::additions_of(&self.entries);
+        self.index = Index::of(self.alloc, &self.entries).ok();
+        Ok(taken)
     }
 
     /// The edges of a list at the places from `pos` on, at most `most` of them. Goes past those before `pos`, and copies

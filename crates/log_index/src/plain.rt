@@ -28,6 +28,13 @@ fn adds_object(entry: &Entry) -> bool
     matches!(entry.kind, Kind::ObjAdd)
 }
 
+/// How many objects the entries add. Reads each of them.
+pub fn additions_of(entries: &[Entry]) -> u64
+    ensures { result ≡ additions entries.now }
+{
+    entries.iter().filter(|entry| adds_object(entry)).count() as u64
+}
+
 /// How many objects an entry adds.
 pub fn added_by(entry: &Entry) -> u64
     ensures { result ≡ additions (entry.now ∷ []) }

@@ -1,12 +1,14 @@
 //! What a keeper may hand out: rows are held to it.
 ghost use Rattle.std.specs.Prelude.{◌≡◌, ◌<◌, ◌≤◌, IfOk, IsTrue};
 ghost use Rattle.graph_model.specs.Edges.{number_of, state_left};
-ghost use Rattle.tao_keeper.specs.Given.{AreGiven, IsGivenEntry, IsGivenJob, IsPosition};
+ghost use Rattle.tao_keeper.specs.Given.{AreGiven, IsGivenEntry, IsGivenJob, IsGivenRole, IsPosition};
 ghost use Rattle.tao_base.specs.Stamps.{stamp_of};
 
 use crate::order::is_in_list_order;
 use tao_base::{Change, Edge, EdgeState, Edges, Entry};
-use tao_keeper::{Job, KeepFail, MOST_ENTRIES, SERIAL_LIMIT, STAMP_LIMIT};
+use tao_keeper::{
+    EPOCH_LIMIT, Job, KeepFail, MOST_ENTRIES, REGION_LIMIT, SERIAL_LIMIT, STAMP_LIMIT,
+};
 
 /// A number of entries, which is no greater than a log has.
 pub(crate) fn few(count: u64) -> Result<u64, KeepFail>
@@ -43,6 +45,17 @@ pub(crate) fn serial(n: u64) -> Result<u64, KeepFail>
 {
     if n < SERIAL_LIMIT {
         Ok(n)
+    } else {
+        Err(KeepFail::Failed)
+    }
+}
+
+/// An epoch and a master region, which are no greater than promotions and configurations make them.
+pub(crate) fn role(epoch: u64, master: u16) -> Result<(u64, u16), KeepFail>
+    ensures { IfOk result (λ role. (role ≡ (epoch, master)) × IsGivenRole role) }
+{
+    if epoch <= EPOCH_LIMIT && master < REGION_LIMIT {
+        Ok((epoch, master))
     } else {
         Err(KeepFail::Failed)
     }

@@ -4,7 +4,7 @@ ghost use Rattle.counts.specs.Count.{Rose};
 ghost use Rattle.tao_keeper.specs.declared.keeper.KeepFail.TheVariants.{Failed};
 
 use crate::rows::Tables;
-use crate::{reading, writing};
+use crate::{cutting, reading, writing};
 use counts::Count;
 use std::alloc::Global;
 use tao_base::{AType, EdgeState, Edges, Entry, Id, Key, Object, Origin, StoreName};
@@ -13,7 +13,8 @@ use tao_keeper::{Commit, Job, KeepFail, Keeper, Opened};
 /// A keeper of tables that stand in a file, or in memory, and are read and written by SQL. It tells nothing of them. Of what
 /// a statement is refused for, all but want of memory is a fault, and so is a row that no keeper may hand out.
 ///
-/// A commit is one transaction, and on the disk when it is answered.
+/// A commit is one transaction, and on the disk when it is answered. So is a cut, whose cost over a file is that of the entries that become old and not of
+/// the log, and so is a cut back, which costs as much as committing the entries that stay, all at once.
 #[derive(Drop)]
 pub struct SqlKeeper {
     alloc: Global,
@@ -82,6 +83,8 @@ impl Keeper for SqlKeeper {
 
     ghost sound = { λ _ _. of_nothing_told };
 
+    ghost cut_within = { λ _ _. of_nothing_told };
+
     ghost of_entries = { λ _ _. of_nothing_told };
 
     fn open(&mut self, at: StoreName, line: &[u8]) -> Result<Opened, KeepFail> {
@@ -145,6 +148,24 @@ impl Keeper for SqlKeeper {
         counted(&mut self.faults, found)
     }
 
+    fn old_entry(&mut self, at: StoreName, position: u64) -> Result<Option<Entry>, KeepFail> {
+        self.calls.rise();
+        let found = reading::old_entry(self.alloc, &mut self.tables, at, position);
+        counted(&mut self.faults, found)
+    }
+
+    fn cut_of(&mut self, at: StoreName) -> Result<u64, KeepFail> {
+        self.calls.rise();
+        let cut = reading::cut_of(&mut self.tables, at);
+        counted(&mut self.faults, cut)
+    }
+
+    fn cut(&mut self, at: StoreName, upto: u64) -> Result<(), KeepFail> {
+        self.calls.rise();
+        let moved = cutting::cut(&mut self.tables, at, upto);
+        counted(&mut self.faults, moved)
+    }
+
     fn last_serial(&mut self, at: StoreName) -> Result<u64, KeepFail> {
         self.calls.rise();
         let serial = reading::last_serial(&mut self.tables, at);
@@ -179,6 +200,30 @@ impl Keeper for SqlKeeper {
         self.calls.rise();
         let added = writing::add(self.alloc, &mut self.tables, at, commit);
         counted(&mut self.faults, added)
+    }
+
+    fn role(&mut self, shard: u16) -> Result<Option<(u64, u16)>, KeepFail> {
+        self.calls.rise();
+        let role = reading::role(&mut self.tables, shard);
+        counted(&mut self.faults, role)
+    }
+
+    fn set_role(&mut self, shard: u16, epoch: u64, region: u16) -> Result<(), KeepFail> {
+        self.calls.rise();
+        let stored = writing::set_role(&mut self.tables, shard, epoch, region);
+        counted(&mut self.faults, stored)
+    }
+
+    fn open_job(&mut self, at: StoreName, job: &Job) -> Result<(), KeepFail> {
+        self.calls.rise();
+        let opened = writing::open_job(self.alloc, &mut self.tables, at, job);
+        counted(&mut self.faults, opened)
+    }
+
+    fn cut_back(&mut self, at: StoreName, length: u64, row: Option<u64>) -> Result<(), KeepFail> {
+        self.calls.rise();
+        let taken = cutting::cut_back(self.alloc, &mut self.tables, at, length, row);
+        counted(&mut self.faults, taken)
     }
 
     fn calls(&self) -> u64 {

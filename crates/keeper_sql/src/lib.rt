@@ -2,7 +2,7 @@
 //!
 //! It tells how often it was called and failed, and not its tables: what a file holds no contract can say. So each
 //! answer is held to what a keeper may hand out, and a row that is otherwise counts as a fault. Besides that its few
-//! lines of SQL are trusted, and tested.
+//! lines of SQL are trusted, and tested. A file that a program of before wrote, without cuts and promotions, opens as it is.
 //!
 //! What it promises. A keeper over SQL tells how often it was called and failed, and not its tables: each call is
 //! counted, one that fails makes the count of faults rise, and what it hands out keeps the bounds of a keeper,
@@ -12,6 +12,8 @@
 #![tactic(auto)]
 
 mod columns;
+mod cutting;
+mod effects;
 mod given;
 mod keeper;
 mod open;

@@ -1,7 +1,7 @@
 //! What is read of the tables.
 ghost use Rattle.std.specs.Prelude.{◌<◌, ◌≤◌, IfOk, IfSome};
 ghost use Rattle.graph_model.specs.Edges.{number_of};
-ghost use Rattle.tao_keeper.specs.Given.{AreGiven, IsGivenEntry, IsGivenJob, IsPosition};
+ghost use Rattle.tao_keeper.specs.Given.{AreGiven, IsGivenEntry, IsGivenJob, IsGivenRole, IsPosition};
 
 use crate::columns::{bytes, id, maybe_bytes, number, short, word};
 use crate::rows::{Tables, place};
@@ -195,18 +195,74 @@ pub(crate) fn version(tables: &mut Tables, at: StoreName, key: Key) -> Result<u6
     given::few(number_or_none(row)?)
 }
 
-/// The length of the log.
-pub(crate) fn length(tables: &mut Tables, at: StoreName) -> Result<u64, KeepFail>
+/// The greatest position that a query gives, 0 where there is none.
+fn last_position(tables: &mut Tables, at: StoreName, sql: &str) -> Result<u64, KeepFail>
     ensures { IfOk result (λ count. count ≤ MOST_ENTRIES) }
 {
     let (region, shard) = place(at);
-    let sql = "SELECT position FROM log WHERE region = ?1 AND shard = ?2 \
-        ORDER BY position DESC LIMIT 1";
     let row = tables.first(sql, params![region, shard])?;
     given::few(number_or_none(row)?)
 }
 
-/// The entry at a position.
+/// The length of the log: where its last live entry stands, or where none is live its last old one.
+pub(crate) fn length(tables: &mut Tables, at: StoreName) -> Result<u64, KeepFail>
+    ensures { IfOk result (λ count. count ≤ MOST_ENTRIES) }
+{
+    let live = "SELECT position FROM log WHERE region = ?1 AND shard = ?2 \
+        ORDER BY position DESC LIMIT 1";
+    let last = last_position(tables, at, live)?;
+    if last > 0 {
+        return Ok(last);
+    }
+    let old = "SELECT position FROM old_log WHERE region = ?1 AND shard = ?2 \
+        ORDER BY position DESC LIMIT 1";
+    last_position(tables, at, old)
+}
+
+/// The cut of the log.
+pub(crate) fn cut_of(tables: &mut Tables, at: StoreName) -> Result<u64, KeepFail>
+    ensures { IfOk result (λ cut. cut ≤ MOST_ENTRIES) }
+{
+    let (region, shard) = place(at);
+    let sql = "SELECT cut FROM store WHERE region = ?1 AND shard = ?2";
+    let row = tables.first(sql, params![region, shard])?;
+    given::few(number_or_none(row)?)
+}
+
+/// The row of the live entry at a position.
+pub(crate) const LIVE_ENTRY: &str =
+    "SELECT entry FROM log WHERE region = ?1 AND shard = ?2 AND position = ?3";
+
+/// The row of the old entry at a position.
+pub(crate) const OLD_ENTRY: &str =
+    "SELECT entry FROM old_log WHERE region = ?1 AND shard = ?2 AND position = ?3";
+
+/// The entry of a row, which has to stand at that position.
+pub(crate) fn entry_of(alloc: Global, row: &Row, position: u64) -> Result<Entry, KeepFail>
+    ensures { IfOk result IsGivenEntry }
+{
+    let entry = spelled::entry_of(alloc, &bytes(row, 0)?)?;
+    given::entry(entry, position)
+}
+
+/// The entry at a position of that part of the log of which the query gives the row.
+fn entry_by(
+    alloc: Global,
+    tables: &mut Tables,
+    at: StoreName,
+    position: u64,
+    sql: &str,
+) -> Result<Option<Entry>, KeepFail>
+    ensures { IfOk result (λ found. IfSome found IsGivenEntry) }
+{
+    let (region, shard) = place(at);
+    match tables.first(sql, params![region, shard, position.cast_signed()])? {
+        Some(row) => Ok(Some(entry_of(alloc, &row, position)?)),
+        None => Ok(None),
+    }
+}
+
+/// The live entry at a position.
 pub(crate) fn entry(
     alloc: Global,
     tables: &mut Tables,
@@ -215,15 +271,19 @@ pub(crate) fn entry(
 ) -> Result<Option<Entry>, KeepFail>
     ensures { IfOk result (λ found. IfSome found IsGivenEntry) }
 {
-    let (region, shard) = place(at);
-    let sql = "SELECT entry FROM log WHERE region = ?1 AND shard = ?2 AND position = ?3";
-    match tables.first(sql, params![region, shard, position.cast_signed()])? {
-        Some(row) => {
-            let entry = spelled::entry_of(alloc, &bytes(&row, 0)?)?;
-            Ok(Some(given::entry(entry, position)?))
-        }
-        None => Ok(None),
-    }
+    entry_by(alloc, tables, at, position, LIVE_ENTRY)
+}
+
+/// The old entry at a position.
+pub(crate) fn old_entry(
+    alloc: Global,
+    tables: &mut Tables,
+    at: StoreName,
+    position: u64,
+) -> Result<Option<Entry>, KeepFail>
+    ensures { IfOk result (λ found. IfSome found IsGivenEntry) }
+{
+    entry_by(alloc, tables, at, position, OLD_ENTRY)
 }
 
 /// The serial of the last object that was added.
@@ -244,7 +304,37 @@ pub(crate) fn origin_columns(origin: Origin) -> (i64, i64, i64) {
     }
 }
 
-/// Where the entry of an origin stands.
+/// Where the entry of an origin stands, in that part of the log of which the query gives the row.
+fn origin_by(
+    tables: &mut Tables,
+    at: StoreName,
+    origin: Origin,
+    sql: &str,
+) -> Result<Option<u64>, KeepFail>
+    ensures { IfOk result (λ found. IfSome found IsPosition) }
+{
+    let (region, shard) = place(at);
+    let (tag, a, b) = origin_columns(origin);
+    match tables.first(sql, params![region, shard, tag, a, b])? {
+        Some(row) => Ok(Some(given::position(number(&row, 0)?)?)),
+        None => Ok(None),
+    }
+}
+
+/// Where the old entry of an origin stands.
+pub(crate) fn old_origin(
+    tables: &mut Tables,
+    at: StoreName,
+    origin: Origin,
+) -> Result<Option<u64>, KeepFail>
+    ensures { IfOk result (λ found. IfSome found IsPosition) }
+{
+    let sql = "SELECT position FROM old_log \
+        WHERE region = ?1 AND shard = ?2 AND tag = ?3 AND a = ?4 AND b = ?5";
+    origin_by(tables, at, origin, sql)
+}
+
+/// Where the entry of an origin stands, live or old.
 pub(crate) fn origin(
     tables: &mut Tables,
     at: StoreName,
@@ -252,12 +342,27 @@ pub(crate) fn origin(
 ) -> Result<Option<u64>, KeepFail>
     ensures { IfOk result (λ found. IfSome found IsPosition) }
 {
-    let (region, shard) = place(at);
-    let (tag, a, b) = origin_columns(origin);
     let sql = "SELECT position FROM log \
         WHERE region = ?1 AND shard = ?2 AND tag = ?3 AND a = ?4 AND b = ?5";
-    match tables.first(sql, params![region, shard, tag, a, b])? {
-        Some(row) => Ok(Some(given::position(number(&row, 0)?)?)),
+    match origin_by(tables, at, origin, sql)? {
+        Some(position) => Ok(Some(position)),
+        None => old_origin(tables, at, origin),
+    }
+}
+
+/// Where the epoch and the master region of a shard are kept: with the first region's store.
+pub(crate) fn role_place(shard: u16) -> (i64, i64) {
+    place(StoreName { region: 0, shard })
+}
+
+/// The epoch and the master region of a shard, where they were stored.
+pub(crate) fn role(tables: &mut Tables, of_shard: u16) -> Result<Option<(u64, u16)>, KeepFail>
+    ensures { IfOk result (λ role. IfSome role IsGivenRole) }
+{
+    let (region, shard) = role_place(of_shard);
+    let sql = "SELECT epoch, master FROM role WHERE region = ?1 AND shard = ?2";
+    match tables.first(sql, params![region, shard])? {
+        Some(row) => Ok(Some(given::role(number(&row, 0)?, short(&row, 1)?)?)),
         None => Ok(None),
     }
 }

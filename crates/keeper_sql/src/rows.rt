@@ -1,7 +1,7 @@
 //! The tables, in memory or in a file, and single statements over them, of which each has a fixed text.
 use crate::columns::fail_of;
 use sqlite::types::ValueRef;
-use sqlite::{Alter, Connection, Error, File, FileStore, MemStore, Row};
+use sqlite::{Alter, Connection, Error, File, FileStore, MemStore, Row, Transaction};
 use tao_base::StoreName;
 use tao_keeper::KeepFail;
 
@@ -36,6 +36,9 @@ struct All;
 
 /// A statement that gives no rows.
 struct Nothing;
+
+/// Whether the tables have the columns that a query names.
+struct HasColumns;
 
 impl Asked for First {
     type Told = Option<Row>;
@@ -80,6 +83,52 @@ impl Asked for Nothing {
     }
 }
 
+impl Asked for HasColumns {
+    type Told = bool;
+
+    fn ask<S: Alter>(
+        conn: &mut Connection<S>,
+        sql: &str,
+        params: &[ValueRef<'_>],
+    ) -> Result<bool, KeepFail> {
+        match conn.query_row(sql, params) {
+            Ok(_) | Err(Error::QueryReturnedNoRows) => Ok(true),
+            Err(Error::SqlInputError(_)) => Ok(false),
+            Err(error) => Err(fail_of(error)),
+        }
+    }
+}
+
+/// What is done in one transaction, over either store: all of its steps, or where one fails none.
+pub(crate) trait AtOnce {
+    fn steps<S: Alter>(&self, tx: &mut Transaction<'_, S>) -> Result<(), KeepFail>;
+}
+
+/// One statement of a transaction.
+pub(crate) fn step<S: Alter>(
+    tx: &mut Transaction<'_, S>,
+    sql: &str,
+    params: &[ValueRef<'_>],
+) -> Result<(), KeepFail> {
+    match tx.execute(sql, params) {
+        Ok(_) => Ok(()),
+        Err(error) => Err(fail_of(error)),
+    }
+}
+
+/// Begins a transaction, takes the steps, and ends it. Where a step fails it is rolled back.
+fn transact<S: Alter, W: AtOnce>(conn: &mut Connection<S>, work: &W) -> Result<(), KeepFail> {
+    if !conn.is_autocommit() {
+        return Err(KeepFail::Failed);
+    }
+    let mut tx = conn.transaction();
+    work.steps(&mut tx)?;
+    match tx.commit() {
+        Ok(()) => Ok(()),
+        Err(error) => Err(fail_of(error)),
+    }
+}
+
 impl Tables {
     /// What a statement is asked for.
     fn ask<A: Asked>(&mut self, sql: &str, params: &[ValueRef<'_>]) -> Result<A::Told, KeepFail> {
@@ -106,5 +155,18 @@ impl Tables {
     /// A statement that gives no rows.
     pub(crate) fn run(&mut self, sql: &str, params: &[ValueRef<'_>]) -> Result<(), KeepFail> {
         self.ask::<Nothing>(sql, params)
+    }
+
+    /// Whether the tables have the columns that a query names.
+    pub(crate) fn have_columns(&mut self, sql: &str) -> Result<bool, KeepFail> {
+        self.ask::<HasColumns>(sql, &[])
+    }
+
+    /// Steps in one transaction.
+    pub(crate) fn at_once<W: AtOnce>(&mut self, work: &W) -> Result<(), KeepFail> {
+        match self {
+            Tables::Memory(conn) => transact(conn, work),
+            Tables::File(conn) => transact(conn, work),
+        }
     }
 }

@@ -1,13 +1,12 @@
 //! What is written to the tables.
-use crate::columns::fail_of;
-use crate::reading::{key_columns, length, origin_columns};
-use crate::rows::{Tables, place};
+use crate::effects::put_effects;
+use crate::reading::{length, old_origin, origin_columns, role_place};
+use crate::rows::{AtOnce, Tables, place, step};
 use crate::spelled::{job_bytes, job_of};
-use entry_codec::{Spelled, encode_data};
-use sqlite::types::ValueRef;
-use sqlite::{Alter, Connection, Transaction, params};
+use entry_codec::Spelled;
+use sqlite::{Alter, Transaction, params};
 use std::alloc::Global;
-use tao_base::{AType, Change, Data, Edge, Entry, Id, Key, Kind, Object, Stamp, StoreName, Touch};
+use tao_base::{Bytes, Entry, StoreName};
 use tao_keeper::{Commit, Job, KeepFail};
 
 /// Keeps the line of a store that is opened first.
@@ -23,18 +22,6 @@ pub(crate) fn end_job(tables: &mut Tables, at: StoreName, position: u64) -> Resu
     let (region, shard) = place(at);
     let sql = "DELETE FROM job WHERE region = ?1 AND shard = ?2 AND position = ?3";
     tables.run(sql, params![region, shard, position.cast_signed()])
-}
-
-/// One statement of a transaction.
-fn step<S: Alter>(
-    tx: &mut Transaction<'_, S>,
-    sql: &str,
-    params: &[ValueRef<'_>],
-) -> Result<(), KeepFail> {
-    match tx.execute(sql, params) {
-        Ok(_) => Ok(()),
-        Err(error) => Err(fail_of(error)),
-    }
 }
 
 fn add_entry<S: Alter>(
@@ -56,243 +43,13 @@ fn add_entry<S: Alter>(
     )
 }
 
-fn put_version<S: Alter>(
-    tx: &mut Transaction<'_, S>,
-    at: StoreName,
-    key: Key,
-    version: u64,
-) -> Result<(), KeepFail> {
-    let (region, shard) = place(at);
-    let (tag, id, atype) = key_columns(key);
-    let sql = "INSERT OR REPLACE INTO version (region, shard, tag, id, atype, n) \
-        VALUES (?1, ?2, ?3, ?4, ?5, ?6)";
-    step(
-        tx,
-        sql,
-        params![region, shard, tag, id, atype, version.cast_signed()],
-    )
+/// The bytes that a job is kept as. One whose bytes don't give it back, as no entry leaves one, is refused.
+fn kept_job(alloc: Global, at: StoreName, job: &Job) -> Result<Bytes, KeepFail> {
+    let bytes = job_bytes(alloc, at.shard, job)?;
+    job_of(alloc, bytes.as_slice())?;
+    Ok(bytes)
 }
 
-fn put_object<S: Alter>(
-    alloc: Global,
-    tx: &mut Transaction<'_, S>,
-    at: StoreName,
-    id: Id,
-    object: &Object,
-) -> Result<(), KeepFail> {
-    let (region, shard) = place(at);
-    let bytes = encode_data(alloc, &object.payload)?;
-    let otype = i64::from(object.otype.0);
-    let sql = "INSERT OR REPLACE INTO object (region, shard, id, otype, data) \
-        VALUES (?1, ?2, ?3, ?4, ?5)";
-    step(
-        tx,
-        sql,
-        params![
-            region,
-            shard,
-            id.number().cast_signed(),
-            otype,
-            bytes.as_slice()
-        ],
-    )
-}
-
-fn drop_object<S: Alter>(
-    tx: &mut Transaction<'_, S>,
-    at: StoreName,
-    id: Id,
-) -> Result<(), KeepFail> {
-    let (region, shard) = place(at);
-    let sql = "DELETE FROM object WHERE region = ?1 AND shard = ?2 AND id = ?3";
-    step(tx, sql, params![region, shard, id.number().cast_signed()])
-}
-
-/// The serial of an object that is added is the store's last.
-fn put_serial<S: Alter>(
-    tx: &mut Transaction<'_, S>,
-    at: StoreName,
-    id: Id,
-) -> Result<(), KeepFail> {
-    let (region, shard) = place(at);
-    let sql = "INSERT INTO store (region, shard, line, serial) VALUES (?1, ?2, NULL, ?3) \
-        ON CONFLICT (region, shard) DO UPDATE SET serial = ?3";
-    step(tx, sql, params![region, shard, id.serial().cast_signed()])
-}
-
-fn put_edge<S: Alter>(
-    alloc: Global,
-    tx: &mut Transaction<'_, S>,
-    at: StoreName,
-    id1: Id,
-    atype: AType,
-    edge: &Edge,
-) -> Result<(), KeepFail> {
-    let (region, shard) = place(at);
-    let id1 = id1.number().cast_signed();
-    let bytes = encode_data(alloc, &edge.payload)?;
-    let idkey = edge.id2.number().to_be_bytes();
-    let sql = "INSERT OR REPLACE INTO edge \
-        (region, shard, id1, atype, id2, idkey, live, time, number, sshard, data) \
-        VALUES (?1, ?2, ?3, ?4, ?5, ?6, 1, ?7, ?8, ?9, ?10)";
-    step(
-        tx,
-        sql,
-        params![
-            region,
-            shard,
-            id1,
-            i64::from(atype.0),
-            edge.id2.number().cast_signed(),
-            idkey.as_slice(),
-            i64::from(edge.time),
-            edge.stamp.number.cast_signed(),
-            i64::from(edge.stamp.shard),
-            bytes.as_slice()
-        ],
-    )
-}
-
-fn cut_edge<S: Alter>(
-    tx: &mut Transaction<'_, S>,
-    at: StoreName,
-    id1: Id,
-    atype: AType,
-    id2: Id,
-    stamp: &Stamp,
-) -> Result<(), KeepFail> {
-    let (region, shard) = place(at);
-    let id1 = id1.number().cast_signed();
-    let idkey = id2.number().to_be_bytes();
-    let sql = "INSERT OR REPLACE INTO edge \
-        (region, shard, id1, atype, id2, idkey, live, time, number, sshard, data) \
-        VALUES (?1, ?2, ?3, ?4, ?5, ?6, 0, 0, ?7, ?8, x'')";
-    step(
-        tx,
-        sql,
-        params![
-            region,
-            shard,
-            id1,
-            i64::from(atype.0),
-            id2.number().cast_signed(),
-            idkey.as_slice(),
-            stamp.number.cast_signed(),
-            i64::from(stamp.shard)
-        ],
-    )
-}
-
-/// A list has one edge more.
-fn grow<S: Alter>(
-    tx: &mut Transaction<'_, S>,
-    at: StoreName,
-    id1: Id,
-    atype: AType,
-) -> Result<(), KeepFail> {
-    let (region, shard) = place(at);
-    let sql = "INSERT INTO size (region, shard, id1, atype, n) VALUES (?1, ?2, ?3, ?4, 1) \
-        ON CONFLICT (region, shard, id1, atype) DO UPDATE SET n = n + 1";
-    let id1 = id1.number().cast_signed();
-    step(tx, sql, params![region, shard, id1, i64::from(atype.0)])
-}
-
-/// A list has one edge less.
-fn shrink<S: Alter>(
-    tx: &mut Transaction<'_, S>,
-    at: StoreName,
-    id1: Id,
-    atype: AType,
-) -> Result<(), KeepFail> {
-    let (region, shard) = place(at);
-    let sql = "UPDATE size SET n = n - 1 \
-        WHERE region = ?1 AND shard = ?2 AND id1 = ?3 AND atype = ?4";
-    let id1 = id1.number().cast_signed();
-    step(tx, sql, params![region, shard, id1, i64::from(atype.0)])
-}
-
-fn change_object<S: Alter>(
-    alloc: Global,
-    tx: &mut Transaction<'_, S>,
-    at: StoreName,
-    id: Id,
-    change: &Change,
-) -> Result<(), KeepFail> {
-    match change {
-        Change::PutObject(object) => put_object(alloc, tx, at, id, object),
-        Change::DropObject => drop_object(tx, at, id),
-        _ => Err(KeepFail::Failed),
-    }
-}
-
-fn change_list<S: Alter>(
-    alloc: Global,
-    tx: &mut Transaction<'_, S>,
-    at: StoreName,
-    id1: Id,
-    atype: AType,
-    change: &Change,
-) -> Result<(), KeepFail> {
-    match change {
-        Change::SetEdge { edge, was } => {
-            put_edge(alloc, tx, at, id1, atype, edge)?;
-            if was.is_some() {
-                return Ok(());
-            }
-            grow(tx, at, id1, atype)
-        }
-        Change::CutEdge { id2, stamp, was } => {
-            cut_edge(tx, at, id1, atype, *id2, stamp)?;
-            if was.is_none() {
-                return Ok(());
-            }
-            shrink(tx, at, id1, atype)
-        }
-        _ => Err(KeepFail::Failed),
-    }
-}
-
-fn add_touch<S: Alter>(
-    alloc: Global,
-    tx: &mut Transaction<'_, S>,
-    at: StoreName,
-    touch: &Touch,
-) -> Result<(), KeepFail> {
-    put_version(tx, at, touch.key, touch.version)?;
-    match touch.key {
-        Key::Obj(id) => change_object(alloc, tx, at, id, &touch.change),
-        Key::List(id1, atype) => change_list(alloc, tx, at, id1, atype, &touch.change),
-    }
-}
-
-fn add_touches<S: Alter>(
-    alloc: Global,
-    tx: &mut Transaction<'_, S>,
-    at: StoreName,
-    entry: &Entry,
-) -> Result<(), KeepFail> {
-    for touch in entry.touches.as_slice() {
-        add_touch(alloc, tx, at, touch)?;
-    }
-    Ok(())
-}
-
-/// An entry that adds an object gives the store its last serial.
-fn add_serial<S: Alter>(
-    tx: &mut Transaction<'_, S>,
-    at: StoreName,
-    entry: &Entry,
-) -> Result<(), KeepFail> {
-    match (entry.kind, entry.touches.as_slice()) {
-        (Kind::ObjAdd, [touch, ..]) => match touch.key {
-            Key::Obj(id) => put_serial(tx, at, id),
-            Key::List(_, _) => Err(KeepFail::Failed),
-        },
-        _ => Ok(()),
-    }
-}
-
-/// A job whose bytes don't give it back, as no entry leaves one, is refused.
 fn add_job<S: Alter>(
     alloc: Global,
     tx: &mut Transaction<'_, S>,
@@ -300,8 +57,7 @@ fn add_job<S: Alter>(
     job: &Job,
 ) -> Result<(), KeepFail> {
     let (region, shard) = place(at);
-    let bytes = job_bytes(alloc, at.shard, job)?;
-    job_of(alloc, bytes.as_slice())?;
+    let bytes = kept_job(alloc, at, job)?;
     let sql = "INSERT INTO job (region, shard, position, edges) VALUES (?1, ?2, ?3, ?4)";
     step(
         tx,
@@ -310,40 +66,28 @@ fn add_job<S: Alter>(
     )
 }
 
-fn add_all<S: Alter>(
+/// An entry, what it leaves, and its job.
+#[derive(Drop)]
+struct Adding<'a> {
     alloc: Global,
-    tx: &mut Transaction<'_, S>,
     at: StoreName,
-    commit: &Commit,
-) -> Result<(), KeepFail> {
-    add_entry(alloc, tx, at, &commit.entry)?;
-    add_serial(tx, at, &commit.entry)?;
-    add_touches(alloc, tx, at, &commit.entry)?;
-    match &commit.job {
-        Some(job) => add_job(alloc, tx, at, job),
-        None => Ok(()),
+    commit: &'a Commit,
+}
+
+impl AtOnce for Adding<'_> {
+    fn steps<S: Alter>(&self, tx: &mut Transaction<'_, S>) -> Result<(), KeepFail> {
+        let commit = self.commit;
+        add_entry(self.alloc, tx, self.at, &commit.entry)?;
+        put_effects(self.alloc, tx, self.at, &commit.entry)?;
+        match &commit.job {
+            Some(job) => add_job(self.alloc, tx, self.at, job),
+            None => Ok(()),
+        }
     }
 }
 
-/// An entry, what it touches, and its job, in one transaction.
-fn add_to<S: Alter>(
-    alloc: Global,
-    conn: &mut Connection<S>,
-    at: StoreName,
-    commit: &Commit,
-) -> Result<(), KeepFail> {
-    if !conn.is_autocommit() {
-        return Err(KeepFail::Failed);
-    }
-    let mut tx = conn.transaction();
-    add_all(alloc, &mut tx, at, commit)?;
-    match tx.commit() {
-        Ok(()) => Ok(()),
-        Err(error) => Err(fail_of(error)),
-    }
-}
-
-/// The entry at the end of the log, what it touches, and its job, in one transaction.
+/// The entry at the end of the log, what it leaves, and its job, in one transaction. The table of the live entries holds no origin twice, and one of an
+/// old entry is looked for here.
 pub(crate) fn add(
     alloc: Global,
     tables: &mut Tables,
@@ -354,8 +98,43 @@ pub(crate) fn add(
     if last.wrapping_add(1) != commit.entry.position {
         return Err(KeepFail::Failed);
     }
-    match tables {
-        Tables::Memory(conn) => add_to(alloc, conn, at, commit),
-        Tables::File(conn) => add_to(alloc, conn, at, commit),
+    if old_origin(tables, at, commit.entry.origin)?.is_some() {
+        return Err(KeepFail::Failed);
     }
+    tables.at_once(&Adding { alloc, at, commit })
+}
+
+/// Opens the job of a position that the log has, where none is open there.
+pub(crate) fn open_job(
+    alloc: Global,
+    tables: &mut Tables,
+    at: StoreName,
+    job: &Job,
+) -> Result<(), KeepFail> {
+    if length(tables, at)? < job.position {
+        return Err(KeepFail::Failed);
+    }
+    let (region, shard) = place(at);
+    let bytes = kept_job(alloc, at, job)?;
+    let sql = "INSERT OR IGNORE INTO job (region, shard, position, edges) VALUES (?1, ?2, ?3, ?4)";
+    tables.run(
+        sql,
+        params![region, shard, job.position.cast_signed(), bytes.as_slice()],
+    )
+}
+
+/// Stores the epoch and the master region of a shard.
+pub(crate) fn set_role(
+    tables: &mut Tables,
+    of_shard: u16,
+    epoch: u64,
+    master: u16,
+) -> Result<(), KeepFail> {
+    let (region, shard) = role_place(of_shard);
+    let sql = "INSERT OR REPLACE INTO role (region, shard, epoch, master) \
+        VALUES (?1, ?2, ?3, ?4)";
+    tables.run(
+        sql,
+        params![region, shard, epoch.cast_signed(), i64::from(master)],
+    )
 }

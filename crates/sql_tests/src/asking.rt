@@ -25,6 +25,9 @@ pub enum Call {
     Edges,
     Count,
     Version,
+    OldEntry(u64),
+    CutOf,
+    Role,
 }
 
 /// The position of an entry.
@@ -59,6 +62,14 @@ fn time_of(found: Option<EdgeState>) -> u64 {
     }
 }
 
+/// An epoch and a master region, the region as the last digit.
+fn digits_of(role: Option<(u64, u16)>) -> u64 {
+    match role {
+        Some((epoch, region)) => epoch.wrapping_mul(10).wrapping_add(u64::from(region)),
+        None => 0,
+    }
+}
+
 /// The ids of edges in their order, as digits.
 fn ids_of(edges: Edges) -> u64 {
     let ids = edges.as_slice().iter().map(|edge| edge.id2.number());
@@ -76,12 +87,14 @@ fn ask_of_log<K: Keeper>(keepers: &mut K, call: Call) -> Result<u64, KeepFail> {
         }
         Call::FirstJob => Ok(place_of_job(keepers.first_job(AT)?)),
         Call::Job(position) => Ok(place_of_job(keepers.job(AT, position)?)),
+        Call::OldEntry(position) => Ok(place_of_entry(keepers.old_entry(AT, position)?)),
+        Call::CutOf => keepers.cut_of(AT),
         _ => keepers.last_serial(AT),
     }
 }
 
 /// What is answered.
-fn ask<K: Keeper>(keepers: &mut K, call: Call) -> Result<u64, KeepFail> {
+pub fn ask<K: Keeper>(keepers: &mut K, call: Call) -> Result<u64, KeepFail> {
     let id = Id::read(1).ok_or(KeepFail::Failed)?;
     let list = AType(0);
     match call {
@@ -93,7 +106,16 @@ fn ask<K: Keeper>(keepers: &mut K, call: Call) -> Result<u64, KeepFail> {
         Call::Edges => Ok(ids_of(keepers.edges(AT, id, list, 0, 10)?)),
         Call::Count => keepers.count(AT, id, list),
         Call::Version => keepers.version(AT, Key::List(id, list)),
+        Call::Role => Ok(digits_of(keepers.role(0)?)),
         other => ask_of_log(keepers, other),
+    }
+}
+
+/// Whether that is what a keeper answered that counted so many faults more: or where no answer is wanted, whether it failed, and counted that once.
+pub fn is_wanted(told: Result<u64, KeepFail>, faults: u64, wanted: Option<u64>) -> bool {
+    match told {
+        Ok(number) => wanted == Some(number) && faults == 0,
+        Err(fail) => wanted.is_none() && fail == KeepFail::Failed && faults == 1,
     }
 }
 
@@ -105,11 +127,31 @@ pub fn answers(rt: &HostRuntime, path: &str, call: Call, wanted: Option<u64>) ->
             let told = ask(&mut keepers, call);
             let faults = keepers.faults();
             keepers.close();
-            match told {
-                Ok(number) => wanted == Some(number) && faults == 0,
-                Err(fail) => wanted.is_none() && fail == KeepFail::Failed && faults == 1,
-            }
+            is_wanted(told, faults, wanted)
         }
         Err(_) => false,
+    }
+}
+
+/// How many of the calls are answered so, up to the first that isn't.
+fn count_answered(keepers: &mut SqlKeeper, calls: &[(Call, u64)]) -> usize {
+    for (place, (call, number)) in calls.iter().enumerate() {
+        if ask(keepers, *call) != Ok(*number) {
+            return place;
+        }
+    }
+    calls.len()
+}
+
+/// How many of the calls a keeper of the file answers so, up to the first that it doesn't.
+pub fn answered(rt: &HostRuntime, path: &str, calls: &[(Call, u64)]) -> usize {
+    match SqlKeeper::open_file(rt, path) {
+        Ok(keepers) => {
+            let mut keepers = keepers;
+            let count = count_answered(&mut keepers, calls);
+            keepers.close();
+            count
+        }
+        Err(_) => 0,
     }
 }

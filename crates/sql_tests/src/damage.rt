@@ -5,7 +5,7 @@ use std::fs;
 use std::test::Fail;
 
 /// What is done to the tables, and what then fails.
-const ROWS: [(&str, Call); 15] = [
+const ROWS: [(&str, Call); 20] = [
     ("UPDATE log SET entry = x'00'", Call::Entry(1)),
     (
         "UPDATE log SET position = 70000 WHERE position = 1",
@@ -36,6 +36,23 @@ const ROWS: [(&str, Call); 15] = [
     ),
     ("UPDATE job SET edges = x''", Call::FirstJob),
     ("UPDATE job SET position = 2", Call::Job(2)),
+    ("UPDATE store SET cut = 65537", Call::CutOf),
+    (
+        "INSERT INTO old_log (region, shard, position, tag, a, b, entry) VALUES (0, 0, 1, 1, 1, 9, x'00')",
+        Call::OldEntry(1),
+    ),
+    (
+        "INSERT INTO old_log (region, shard, position, tag, a, b, entry) VALUES (0, 0, 70000, 1, 1, 9, x'00')",
+        Call::Origin(9),
+    ),
+    (
+        "INSERT INTO role (region, shard, epoch, master) VALUES (0, 0, 1001, 1)",
+        Call::Role,
+    ),
+    (
+        "INSERT INTO role (region, shard, epoch, master) VALUES (0, 0, 1, 4)",
+        Call::Role,
+    ),
 ];
 
 /// Whether the call fails over a copy of the file on which this was done.

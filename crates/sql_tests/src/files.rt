@@ -2,9 +2,9 @@
 ghost use Rattle.std.specs.Prelude.{◌≡◌, IfOk, IfSome};
 ghost use Rattle.tao_keeper.specs.Given.{HaveSmallStamps, IsGivenJob};
 
-use crate::asking::{AT, Call, answers};
+use crate::asking::{AT, Call, answered};
 use keeper_sql::SqlKeeper;
-use sqlite::Connection;
+use sqlite::{Connection, File, FileStore};
 use std::alloc::{AllocError, Global};
 use std::fs;
 use std::test::Fail;
@@ -12,10 +12,10 @@ use tao_base::{AType, Change, EdgeState, Entry, Id, Key, Kind, Origin, Stamp, To
 use tao_keeper::{Commit, Job, JobEdges, KeepFail, Keeper, Opened};
 
 /// The line that the store is opened with first.
-const LINE: &[u8] = b"a";
+pub const LINE: &[u8] = b"a";
 
 /// The rows of the store, as any program may write them: an object, its edges to 2 and to 3, and the job that the second of these left.
-const ROWS: [&str; 10] = [
+pub const ROWS: [&str; 10] = [
     "UPDATE store SET serial = 1",
     "INSERT INTO object (region, shard, id, otype, data) VALUES (0, 0, 1, 515, x'010001610000')",
     "INSERT INTO edge (region, shard, id1, atype, id2, idkey, live, time, number, sshard, data) \
@@ -38,7 +38,7 @@ const ROWS: [&str; 10] = [
 ];
 
 /// What is answered of these rows.
-const FOUND: [(Call, u64); 14] = [
+pub const FOUND: [(Call, u64); 18] = [
     (Call::Length, 3),
     (Call::LastSerial, 1),
     (Call::Entry(1), 1),
@@ -53,6 +53,10 @@ const FOUND: [(Call, u64); 14] = [
     (Call::Edges, 32),
     (Call::Count, 2),
     (Call::Version, 2),
+    (Call::CutOf, 0),
+    (Call::OldEntry(1), 0),
+    (Call::Role, 0),
+    (Call::Length, 3),
 ];
 
 /// What is answered once the edge to 3 was deleted, and its job ended.
@@ -90,8 +94,43 @@ pub fn alter(rt: &HostRuntime, path: &str, sql: &str) -> bool {
     }
 }
 
+/// Whether the statements were done, over one connection.
+fn are_done(conn: &mut Connection<FileStore<File>>, texts: &[&str]) -> bool {
+    for sql in texts {
+        if conn.execute(sql, &[]).is_err() {
+            return false;
+        }
+    }
+    true
+}
+
+/// Whether the statements over the file were done.
+pub fn alter_all(rt: &HostRuntime, path: &str, texts: &[&str]) -> bool {
+    match Connection::open(rt, path) {
+        Ok(conn) => {
+            let mut conn = conn;
+            let done = are_done(&mut conn, texts);
+            conn.close().is_ok() && done
+        }
+        Err(_) => false,
+    }
+}
+
+/// The number that a query of the file gives.
+pub fn number_in(rt: &HostRuntime, path: &str, sql: &str) -> Option<i64> {
+    match Connection::open(rt, path) {
+        Ok(conn) => {
+            let mut conn = conn;
+            let found = conn.query_row(sql, &[]).and_then(|row| row.get(0));
+            let closed = conn.close();
+            found.ok().filter(|_| closed.is_ok())
+        }
+        Err(_) => None,
+    }
+}
+
 /// Whether a store of the file takes this line.
-fn opens(rt: &HostRuntime, path: &str, line: &[u8], wanted: Opened) -> bool {
+pub fn opens(rt: &HostRuntime, path: &str, line: &[u8], wanted: Opened) -> bool {
     match SqlKeeper::open_file(rt, path) {
         Ok(keepers) => {
             let mut keepers = keepers;
@@ -106,11 +145,7 @@ fn opens(rt: &HostRuntime, path: &str, line: &[u8], wanted: Opened) -> bool {
 /// Makes a file, whose store was opened with `LINE` and has the rows.
 pub fn make_file(rt: &HostRuntime, path: &str) -> Result<bool, Fail> {
     remove(rt, path)?;
-    let mut done = opens(rt, path, LINE, Opened::Ready);
-    for row in ROWS {
-        done = alter(rt, path, row) && done;
-    }
-    Ok(done)
+    Ok(opens(rt, path, LINE, Opened::Ready) && alter_all(rt, path, &ROWS))
 }
 
 /// The write that deletes the edge to 3, and what it leaves to do at the other end.
@@ -182,12 +217,8 @@ fn a_file_keeps_what_was_written(rt: HostRuntime) -> Result<(), Fail> {
     assert!(rt; make_file(&rt, path)?);
     assert!(rt; opens(&rt, path, LINE, Opened::Ready));
     assert!(rt; opens(&rt, path, b"b", Opened::OtherLine));
-    for (call, number) in FOUND {
-        assert!(rt; answers(&rt, path, call, Some(number)), "{number}");
-    }
+    assert_eq!(rt; answered(&rt, path, &FOUND), FOUND.len());
     assert!(rt; goes_on(&rt, path)?);
-    for (call, number) in FOUND_LATER {
-        assert!(rt; answers(&rt, path, call, Some(number)), "later {number}");
-    }
+    assert_eq!(rt; answered(&rt, path, &FOUND_LATER), FOUND_LATER.len());
     remove(&rt, path)
 }

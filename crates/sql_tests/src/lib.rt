@@ -6,6 +6,10 @@ mod asking;
 #[cfg(test)]
 mod damage;
 #[cfg(test)]
+mod earlier;
+#[cfg(test)]
 mod files;
+#[cfg(test)]
+mod parts;
 #[cfg(test)]
 mod refused;

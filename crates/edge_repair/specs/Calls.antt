@@ -29,6 +29,7 @@ PassesOn (refusal.LogFull length) passed = passed ≡ repair.LogFull length
 PassesOn refusal.OutOfMemory passed = passed ≡ repair.OutOfMemory
 PassesOn (refusal.ShardFull serial) passed = ⊥
 PassesOn (refusal.StampFull number) passed = ⊥
+PassesOn (refusal.TooOld cut position) passed = ⊥
 PassesOn (refusal.SeqReused position) passed = ⊥
 
 -- the end of a job is refused for a failure of the keeper or for want of memory alone

@@ -41,6 +41,7 @@ pub fn passed_on(refusal: StoreRefusal) -> RepairRefusal
         StoreRefusal::OutOfMemory => RepairRefusal::OutOfMemory,
         StoreRefusal::ShardFull { .. }
         | StoreRefusal::StampFull { .. }
+        | StoreRefusal::TooOld { .. }
         | StoreRefusal::SeqReused { .. } => unreachable!(),
     }
 }

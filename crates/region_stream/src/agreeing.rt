@@ -5,6 +5,7 @@ ghost use Rattle.region_stream.specs.Agreeing.{IsFirstDifference};
 ghost use Rattle.tao_keeper.specs.KeeperState.{CallsKeeper, KeepsTables};
 
 use entry_match::is_same_entry;
+use shard_tables::any_entry;
 use tao_base::{Entry, StoreName};
 use tao_keeper::{KeepFail, Keeper, MOST_ENTRIES};
 
@@ -23,7 +24,7 @@ fn stands_at(log: &[Entry], place: u64, entry: &Entry) -> bool
 /// or the master's log has ended. None where it begins the master's log.
 ///
 /// `Failed` comes only where the keeper's count of faults rose, and `OutOfMemory` where there was no memory. No table changes.
-/// Costs a call of the keeper for the length, and one for each entry up to that position.
+/// Costs two calls of the keeper for the length and the cut, and one for each entry up to that position.
 pub fn first_difference<M: Keeper>(
     keeper: &mut M,
     at: StoreName,
@@ -34,8 +35,9 @@ pub fn first_difference<M: Keeper>(
     ensures calls { CallsKeeper KeepFail.Failed (M.state keeper.old) (M.state keeper.new) result }
 {
     let count = keeper.length(at)?;
+    let cut = keeper.cut_of(at)?;
     for place in 0..count {
-        let found = keeper.entry(at, place + 1)?;
+        let found = any_entry(keeper, at, cut, place + 1)?;
         match found {
             Some(entry) => {
                 if !stands_at(master, place, &entry) {

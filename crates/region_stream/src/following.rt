@@ -1,5 +1,5 @@
 //! A slave's store that follows its master's, entry by entry.
-ghost use Rattle.std.specs.Prelude.{◌≡◌, IfErr, IfOk, None};
+ghost use Rattle.std.specs.Prelude.{◌≡◌, ◌≤◌, IfErr, IfOk, None, length};
 ghost use Rattle.graph_model.specs.Told.{WhereTold};
 ghost use Rattle.region_stream.specs.Following.{CallsBoth, CountsEmpties, IsNextOf, StepsTo, entry_moved};
 ghost use Rattle.shard_tables.specs.Refusals.{IsOfReads};
@@ -49,7 +49,7 @@ impl Follow {
     }
 
     /// Adds the master's next entry to the slave's log, and answers it: none exactly where the logs are told to be equally long.
-    /// A refusal changes no table, and neither store.
+    /// That entry is a live one: the master's cut is within the slave's log. A refusal changes no table, and neither store.
     ///
     /// `KeeperFault` comes only where the count of faults of one of the keepers rose, and `OutOfMemory` where there was no
     /// memory. Costs two calls of keepers, and one more where an entry is added.
@@ -65,6 +65,8 @@ impl Follow {
         requires one_log { master.old.view.log ≡ slave.old.view.log }
         requires from { IsStoreOf F.TELLS (F.state master_keeper.old).told master.old }
         requires to { IsStoreOf T.TELLS (T.state slave_keeper.old).told slave.old }
+        requires live { WhereTold T.TELLS
+            (((F.state master_keeper.old).told master.old.name).cut ≤ length ((T.state slave_keeper.old).told slave.old.name).log) }
 
         // What is moved, and that it was counted where nothing is.
         ensures next { WhereTold T.TELLS (IfOk result

@@ -102,8 +102,8 @@ fn make_slaves(
 ///
 /// `Disagree` comes exactly where that of a slave doesn't: with the first such slave, and the first position at which its log
 /// isn't the master's, also where it is longer. `KeeperFault` comes only where the keeper's count of faults rose, and
-/// `OutOfMemory` where there was no memory. No table changes. Costs a call of the keeper for each store's length, and one for
-/// each of their entries.
+/// `OutOfMemory` where there was no memory. No table changes. Costs two calls of the keeper for each store, its length and
+/// its cut, and one for each of their entries.
 pub fn open_shard<M: Keeper>(
     alloc: Global,
     keeper: &mut M,

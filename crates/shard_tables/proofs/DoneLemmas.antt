@@ -38,7 +38,7 @@ use Rattle.shard_tables.specs.Stores.{HasSeen, IsStoreOf, store_with, with_added
 use Rattle.shard_tables.specs.WriteDone.{MergeDone, StoreGains, WriteDone}
 use Rattle.shard_tables.specs.Written.{AskedWrite, FindsNothing, HasEntry, IsAdded, LiesOn, StandsIn, WriteAnswers, added_entry}
 use Rattle.shard_tables.specs.declared.refusal.StoreRefusal.{StoreRefusal}
-use Rattle.shard_tables.specs.declared.refusal.StoreRefusal.TheVariants.{KeeperFault, LogFull, ShardFull, StampFull, SeqReused, OutOfMemory}
+use Rattle.shard_tables.specs.declared.refusal.StoreRefusal.TheVariants.{KeeperFault, LogFull, ShardFull, StampFull, TooOld, SeqReused, OutOfMemory}
 use Rattle.shard_tables.specs.declared.writes.Wrote.{Wrote}
 
 -- ---- calls, tables and the store
@@ -91,6 +91,7 @@ calls_before store old new (LogFull count) wanting later = record { calls = late
 calls_before store old new KeeperFault wanting later = absurd wanting
 calls_before store old new (ShardFull serial) wanting later = absurd wanting
 calls_before store old new (StampFull number) wanting later = absurd wanting
+calls_before store old new (TooOld cut position) wanting later = absurd wanting
 calls_before store old new (SeqReused position) wanting later = absurd wanting
 
 -- a store over tables that stayed
@@ -182,6 +183,7 @@ write_refusal asked OutOfMemory is = tt
 write_refusal asked (LogFull count) is = absurd is
 write_refusal asked (ShardFull serial) is = absurd is
 write_refusal asked (StampFull number) is = absurd is
+write_refusal asked (TooOld cut position) is = absurd is
 write_refusal asked (SeqReused position) is = absurd is
 
 -- a write at the store of this name
@@ -293,6 +295,7 @@ merge_refusal asked OutOfMemory is = (tt, tt)
 merge_refusal asked (LogFull count) is = absurd is
 merge_refusal asked (ShardFull serial) is = absurd is
 merge_refusal asked (StampFull number) is = absurd is
+merge_refusal asked (TooOld cut position) is = absurd is
 merge_refusal asked (SeqReused position) is = absurd is
 
 -- a merge at the store of this name

@@ -24,7 +24,7 @@ use Rattle.shard_tables.specs.StoreView.{Store}
 use Rattle.shard_tables.specs.Stores.{IsStoreOf, length_of}
 use Rattle.shard_tables.specs.WriteDone.{asked_merge_at}
 use Rattle.shard_tables.specs.declared.refusal.StoreRefusal.{StoreRefusal}
-use Rattle.shard_tables.specs.declared.refusal.StoreRefusal.TheVariants.{KeeperFault, LogFull, ShardFull, StampFull, SeqReused, OutOfMemory}
+use Rattle.shard_tables.specs.declared.refusal.StoreRefusal.TheVariants.{KeeperFault, LogFull, ShardFull, StampFull, TooOld, SeqReused, OutOfMemory}
 use Rattle.shard_tables.specs.declared.store.StoreRole.TheVariants.{Master}
 
 -- the touches that were asked for under a name and of records that are the store's and the job's
@@ -61,6 +61,7 @@ module _ (tells : Bool) (tables : Tables) (store : Store) (at : StoreName) (us :
   merge_is_full some KeeperFault wanting = absurd wanting
   merge_is_full some (ShardFull serial) wanting = absurd wanting
   merge_is_full some (StampFull number) wanting = absurd wanting
+  merge_is_full some (TooOld cut position) wanting = absurd wanting
   merge_is_full some (SeqReused position) wanting = absurd wanting
 
   -- there are some, and they may be merged

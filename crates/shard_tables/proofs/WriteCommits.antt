@@ -33,10 +33,10 @@ use Rattle.shard_tables.specs.StoreCommits.{CanCommit, HasEntryAt, HasNoCommit, 
 use Rattle.shard_tables.specs.StoreView.{Store}
 use Rattle.shard_tables.specs.Stores.{IsStoreOf, length_of}
 use Rattle.shard_tables.specs.WriteDone.{StoreGains, WriteDone, asked_at}
-use Rattle.shard_tables.specs.Written.{AskedWrite, FindsNothing, HasEntry, IsAdded, IsReused, LiesOn, StandsIn, TableGains, WriteAnswers}
+use Rattle.shard_tables.specs.Written.{AskedWrite, FindsNothing, HasEntry, IsAdded, IsReused, IsTooOld, LiesOn, StandsIn, TableGains, WriteAnswers}
 use Rattle.shard_tables.specs.Written.{added_entry, asked_write, made_entry}
 use Rattle.shard_tables.specs.declared.refusal.StoreRefusal.{StoreRefusal}
-use Rattle.shard_tables.specs.declared.refusal.StoreRefusal.TheVariants.{KeeperFault, LogFull, ShardFull, StampFull, SeqReused, OutOfMemory}
+use Rattle.shard_tables.specs.declared.refusal.StoreRefusal.TheVariants.{KeeperFault, LogFull, ShardFull, StampFull, TooOld, SeqReused, OutOfMemory}
 use Rattle.shard_tables.specs.declared.store.StoreRole.TheVariants.{Master}
 use Rattle.shard_tables.specs.declared.writes.Wrote.{Wrote}
 
@@ -103,11 +103,12 @@ module _ (tells : Bool) (types : EdgeTypes) (tables : Tables) (store : Store) (o
       write_is_full OutOfMemory wanting = λ told. tt
       write_is_full (LogFull n) wanting = λ told.
           let is : n ≡ length_of store = cc in
-          full_is types store.epoch (tables store.name).log origin write ts n (here told) some (is ∙ count told) store.log_max (new told)
+          full_is types store.epoch (tables store.name) origin write ts n (here told) some (is ∙ count told) store.log_max (new told)
           (subst (λ k. store.log_max ≤ k) (sym is) wanting.full)
       write_is_full KeeperFault wanting = absurd wanting
       write_is_full (ShardFull serial) wanting = absurd wanting
       write_is_full (StampFull number) wanting = absurd wanting
+      write_is_full (TooOld cut position) wanting = absurd wanting
       write_is_full (SeqReused position) wanting = absurd wanting
 
       -- the entry is committed, and keeps the log sound
@@ -130,7 +131,7 @@ module _ (tells : Bool) (types : EdgeTypes) (tables : Tables) (store : Store) (o
             room = subst (λ k. k < store.log_max) (count told) room;
           });
           stays = λ told. subst (StaysSound types store.name.shard (tables store.name).log) (sym entry_is)
-              (stays_sound types store.epoch (tables store.name).log origin write ts (length_of store) (here told) some (count told) store.name.shard match
+              (stays_sound types store.epoch (tables store.name) origin write ts (length_of store) (here told) some (count told) store.name.shard match
               (sound told) (new told) shard_is changes);
         }
           where
@@ -147,7 +148,7 @@ pub write_since : (tells : Bool) (types : EdgeTypes) (store : Store) (origin : O
     → WriteDone tells store.name (asked_at types old.told store origin write) old new result
 write_since tells types store origin write old mid new result stays later done = record {
   answer = λ told.
-      subst (λ t. WriteAnswers (asked_write types store.log_max store.epoch t.log origin write) result) (stays told store.name) (done.answer told);
+      subst (λ t. WriteAnswers (asked_write types store.log_max store.epoch t origin write) result) (stays told store.name) (done.answer told);
   fits = done.fits;
   entry = done.entry;
   job = done.job;
@@ -188,17 +189,20 @@ module _ (tells : Bool) (types : EdgeTypes) (store : Store) (origin : Origin) (w
       let own = own_place types store.name.shard (old.told store.name).log position e (sound told) (there told) in
       (subst (λ l. entry_at l e.position ≡ Some e) (sym (log_is told)) own.0, own.1)
 
-  -- the write is refused, where the entry there is of another one
-  other : tells ≡ true → (refusal : StoreRefusal) → IsOtherWrite (old.told store.name).log position write refusal → WriteAnswers asked_again (Err refusal)
+  -- the write is refused, where the entry there is old, or of another one
+  other : tells ≡ true → (refusal : StoreRefusal) → IsOtherWrite (old.told store.name) position write refusal → WriteAnswers asked_again (Err refusal)
   other told KeeperFault is = tt
   other told OutOfMemory is = tt
+  other told (TooOld cut at) is =
+      subst (λ p. IsTooOld asked_again cut p) (sym is.1) (record { cut_is = is.0; old = is.2; stands = stands told })
   other told (SeqReused at) is =
-      subst (λ p. IsReused asked_again p) (sym is.0) (found (entry_at (old.told store.name).log position) refl (stands told) is.1)
+      subst (λ p. IsReused asked_again p) (sym is.0) (found (entry_at (old.told store.name).log position) refl (stands told) is.2)
     where
       found : (there : Option Entry) → entry_at (old.told store.name).log position ≡ there → IsSomeAnd there (λ e. e.origin ≡ origin)
           → IfSome there (λ e. ¬ FitsWrite e write) → IsReused asked_again position
       found None is_there wanting differs = absurd wanting
-      found (Some e) is_there origin_is differs = record { entry = e; stands = record { stands = is_there; origin_is = origin_is }; differs = differs }
+      found (Some e) is_there origin_is differs =
+          record { live = is.1; entry = e; stands = record { stands = is_there; origin_is = origin_is }; differs = differs }
   other told (LogFull count) is = absurd is
   other told (ShardFull serial) is = absurd is
   other told (StampFull number) is = absurd is
@@ -212,18 +216,19 @@ module _ (tells : Bool) (types : EdgeTypes) (store : Store) (origin : Origin) (w
       by None entry_is wanting = absurd wanting
       by (Some e) entry_is fits =
           let plain = wrote_is wrote (Some e) true wrote.job entry_is is.retry refl in
-          let there : WhereTold tells (entry_at (old.told store.name).log position ≡ Some e) = λ told. sym (has told).0 ∙ entry_is in
+          let there : WhereTold tells (entry_at (old.told store.name).log position ≡ Some e) = λ told. sym (has told).entry_is ∙ entry_is in
           let own = placed e there in
           subst (λ w. WriteDone tells store.name asked_again old new (Ok w)) (sym plain) (record {
             answer = λ told. record {
               position = position;
+              live = (has told).live;
               stands = record { stands = there told; origin_is = subst (λ o. IsSomeAnd o (λ d. d.origin ≡ origin)) (there told) (stands told) };
               fits = fits;
             };
             fits = fits;
             entry = has_entry write e;
             job = tt;
-            found = λ told. record { position = position; stands = there told; job_is = (has told).1 };
+            found = λ told. record { position = position; stands = there told; job_is = (has told).job_is };
             given = is.given;
             tables = stays;
             logs = growing_laws.stays tells old.told new.told stays;
@@ -234,7 +239,7 @@ module _ (tells : Bool) (types : EdgeTypes) (store : Store) (origin : Origin) (w
           })
 
   pub write_repeated : (result : Result Wrote StoreRefusal)
-      → WhereTold tells (MatchResult result (HasEntryAt (old.told store.name) position) (IsOtherWrite (old.told store.name).log position write))
+      → WhereTold tells (MatchResult result (HasEntryAt (old.told store.name) position) (IsOtherWrite (old.told store.name) position write))
       → IfOk result (IsRetried write note) → CallsKeeper KeeperFault old new result → WriteDone tells store.name asked_again old new result
   write_repeated (Ok wrote) answer is calls = again wrote is answer (record { calls = calls.calls; faults = calls.faults })
   write_repeated (Err refusal) answer is calls =

@@ -14,7 +14,7 @@ use Rattle.graph_model.specs.Soundness.{IsSoundOf, IsNewOrigin}
 use Rattle.tao_base.specs.Writes.{ChangesType, write_kind, write_shard}
 use Rattle.write_model.specs.WriteLaws.{IsOfShard, StaysSound}
 use Rattle.write_model.specs.Writes.{forward_entry, next_entry}
-use Rattle.tao_keeper.specs.Table.{Tables, Stays, Becomes, after_commit}
+use Rattle.tao_keeper.specs.Table.{Table, Tables, Stays, Becomes, after_commit}
 use Rattle.tao_keeper.specs.declared.jobs.Job.{Job}
 use Rattle.shard_tables.specs.Stores.{HasSeen, IsStoreOf}
 use Rattle.shard_tables.specs.StoreView.{Store}
@@ -61,20 +61,20 @@ pub touches_at : (types : EdgeTypes) (epoch own : ℕ) (tables : Tables) (at nam
 touches_at types epoch own tables at name write ts same is are =
     subst (λ n. AreTouches types epoch (tables n).log write ts) is (subst (λ n. AreTouches types n (tables at).log write ts) same are)
 
--- a write over a log of so many entries
-module _ (types : EdgeTypes) (epoch : ℕ) (log : List Entry) (origin : Origin) (write : Write) (ts : List Touch) (n : ℕ)
-    (are : AreTouches types epoch log write ts) (some : 0 < length ts) (count : n ≡ length log) where
-  pub full_is : (most : ℕ) → IsNewOrigin log origin → most ≤ n → IsLogFull (asked_write types most epoch log origin write) n
+-- a write over a table whose log has so many entries
+module _ (types : EdgeTypes) (epoch : ℕ) (table : Table) (origin : Origin) (write : Write) (ts : List Touch) (n : ℕ)
+    (are : AreTouches types epoch table.log write ts) (some : 0 < length ts) (count : n ≡ length table.log) where
+  pub full_is : (most : ℕ) → IsNewOrigin table.log origin → most ≤ n → IsLogFull (asked_write types most epoch table origin write) n
   full_is most new full = record {
     entry = made_entry n origin write ts;
-    next = record { new = new; forward = made_is types epoch log origin write ts n are some count; serial = are.serial; stamps = are.stamps };
+    next = record { new = new; forward = made_is types epoch table.log origin write ts n are some count; serial = are.serial; stamps = are.stamps };
     full = subst (λ k. most ≤ k) count full;
     count_is = count;
   }
 
-  pub stays_sound : (shard : ℕ) → InversesMatch types → IsSoundOf types shard log → IsNewOrigin log origin → write_shard write ≡ shard → ChangesType types write
-      → StaysSound types shard log (made_entry n origin write ts)
+  pub stays_sound : (shard : ℕ) → InversesMatch types → IsSoundOf types shard table.log → IsNewOrigin table.log origin → write_shard write ≡ shard
+      → ChangesType types write → StaysSound types shard table.log (made_entry n origin write ts)
   stays_sound shard match sound new here changes =
-      (forward_follows shard log origin write (made_entry n origin write ts)).stays types epoch
-      (record { inverses = match; sound = sound; new = new; here = here_is shard log write here are.serial; changes = changes })
-      (made_is types epoch log origin write ts n are some count)
+      (forward_follows shard table.log origin write (made_entry n origin write ts)).stays types epoch
+      (record { inverses = match; sound = sound; new = new; here = here_is shard table.log write here are.serial; changes = changes })
+      (made_is types epoch table.log origin write ts n are some count)

@@ -12,7 +12,7 @@ use Rattle.tao_keeper.specs.Table.{IsJobAt, Table}
 use Rattle.tao_keeper.specs.declared.jobs.Job.{Job}
 use Rattle.write_touches.specs.FarJobs.{job_for}
 use Rattle.shard_tables.specs.declared.refusal.StoreRefusal.{StoreRefusal}
-use Rattle.shard_tables.specs.declared.refusal.StoreRefusal.TheVariants.{KeeperFault, LogFull, ShardFull, StampFull, SeqReused, OutOfMemory}
+use Rattle.shard_tables.specs.declared.refusal.StoreRefusal.TheVariants.{KeeperFault, LogFull, ShardFull, StampFull, TooOld, SeqReused, OutOfMemory}
 use Rattle.shard_tables.specs.declared.writes.Wrote.{Wrote}
 
 -- the job in the answer of a write that is new: that of its entry
@@ -55,6 +55,7 @@ MergesAs most log from position us (Ok wrote) = (wrote.entry ≡ merge_of log fr
 MergesAs most log from position us (Err (LogFull count)) = IsSome (merge_of log from position us) × (most ≤ length log) × (count ≡ length log)
 MergesAs most log from position us (Err KeeperFault) = ⊤
 MergesAs most log from position us (Err OutOfMemory) = ⊤
+MergesAs most log from position us (Err (TooOld cut at)) = ⊥
 MergesAs most log from position us (Err (SeqReused at)) = ⊥
 MergesAs most log from position us (Err (ShardFull serial)) = ⊥
 MergesAs most log from position us (Err (StampFull number)) = ⊥
@@ -64,6 +65,7 @@ abbrev pub IsOfMerges : StoreRefusal → Type 0
 IsOfMerges KeeperFault = ⊤
 IsOfMerges OutOfMemory = ⊤
 IsOfMerges (LogFull count) = ⊤
+IsOfMerges (TooOld cut at) = ⊥
 IsOfMerges (SeqReused at) = ⊥
 IsOfMerges (ShardFull serial) = ⊥
 IsOfMerges (StampFull number) = ⊥

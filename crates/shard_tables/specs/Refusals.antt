@@ -26,4 +26,5 @@ IsOfReads refusal.OutOfMemory = ⊤
 IsOfReads (refusal.LogFull length) = ⊥
 IsOfReads (refusal.ShardFull serial) = ⊥
 IsOfReads (refusal.StampFull number) = ⊥
+IsOfReads (refusal.TooOld cut position) = ⊥
 IsOfReads (refusal.SeqReused position) = ⊥

@@ -1,5 +1,5 @@
 -- What a store commits: the entry of a write or of a merge, with its job; and what it answers where nothing is to be committed.
-use Rattle.std.specs.Prelude.{ℕ, ◌≡◌, ◌<◌, true, false, List, Some, IfSome, IsSomeAnd, ⊤}
+use Rattle.std.specs.Prelude.{ℕ, ◌≡◌, ◌≤◌, ◌<◌, true, false, Some, IfSome, IsSomeAnd, ⊤}
 use Rattle.tao_base.specs.EdgeTypes.{EdgeTypes}
 use Rattle.tao_base.specs.declared.entry.Entry.{Entry}
 use Rattle.tao_base.specs.declared.write.Write.{Write}
@@ -13,7 +13,7 @@ use Rattle.write_touches.specs.FarJobs.{job_for}
 use Rattle.shard_tables.specs.StoreView.{Store}
 use Rattle.shard_tables.specs.Stores.{IsFullFor, length_of}
 use Rattle.shard_tables.specs.declared.refusal.StoreRefusal.{StoreRefusal}
-use Rattle.shard_tables.specs.declared.refusal.StoreRefusal.TheVariants.{KeeperFault, LogFull, ShardFull, StampFull, SeqReused, OutOfMemory}
+use Rattle.shard_tables.specs.declared.refusal.StoreRefusal.TheVariants.{KeeperFault, LogFull, ShardFull, StampFull, TooOld, SeqReused, OutOfMemory}
 use Rattle.shard_tables.specs.declared.writes.Wrote.{Wrote}
 
 -- a keeper takes the commit: the log has room, and the job is one of the entry
@@ -40,20 +40,30 @@ HasNoCommit store OutOfMemory = ⊤
 HasNoCommit store KeeperFault = ⊥
 HasNoCommit store (ShardFull serial) = ⊥
 HasNoCommit store (StampFull number) = ⊥
+HasNoCommit store (TooOld cut position) = ⊥
 HasNoCommit store (SeqReused position) = ⊥
 
--- a write whose origin stands at the position is refused, since the entry there is one that it could not have made
-abbrev pub IsOtherWrite : List Entry → ℕ → Write → StoreRefusal → Type 0
-IsOtherWrite log position write (SeqReused at) = (at ≡ position) × IfSome (entry_at log position) (λ e. ¬ FitsWrite e write)
-IsOtherWrite log position write KeeperFault = ⊤
-IsOtherWrite log position write OutOfMemory = ⊤
-IsOtherWrite log position write (LogFull count) = ⊥
-IsOtherWrite log position write (ShardFull serial) = ⊥
-IsOtherWrite log position write (StampFull number) = ⊥
+-- a write whose origin stands at the position is refused, since the entry there is old, or live and one that it could not have made
+abbrev pub IsOtherWrite : Table → ℕ → Write → StoreRefusal → Type 0
+IsOtherWrite table position write (TooOld cut at) = (cut ≡ table.cut) × (at ≡ position) × (position ≤ table.cut)
+IsOtherWrite table position write (SeqReused at) =
+    (at ≡ position) × (table.cut < position) × IfSome (entry_at table.log position) (λ e. ¬ FitsWrite e write)
+IsOtherWrite table position write KeeperFault = ⊤
+IsOtherWrite table position write OutOfMemory = ⊤
+IsOtherWrite table position write (LogFull count) = ⊥
+IsOtherWrite table position write (ShardFull serial) = ⊥
+IsOtherWrite table position write (StampFull number) = ⊥
 
--- the answer has the entry at the position, with the job that it has open
-abbrev pub HasEntryAt : Table → ℕ → Wrote → Type 0
-HasEntryAt table position wrote = (wrote.entry ≡ entry_at table.log position) × IsJobAt table.jobs position wrote.job
+-- the entry is the live one at the position
+pub record IsLiveEntry (table : Table) (position : ℕ) (entry : Entry) : Type 0 where
+  pub live : table.cut < position
+  pub stands : entry_at table.log position ≡ Some entry
+
+-- the answer has the live entry at the position, with the job that it has open
+pub record HasEntryAt (table : Table) (position : ℕ) (wrote : Wrote) : Type 0 where
+  pub live : table.cut < position
+  pub entry_is : wrote.entry ≡ entry_at table.log position
+  pub job_is : IsJobAt table.jobs position wrote.job
 
 -- a write that was made before is answered with an entry that it could have made, and with this note
 pub record IsRetried (write : Write) (note : View) (wrote : Wrote) : Type 0 where

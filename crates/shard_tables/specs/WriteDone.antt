@@ -24,7 +24,7 @@ use Rattle.shard_tables.specs.declared.writes.Wrote.{Wrote}
 
 -- what a write asks of a store over these tables: of its log, with its limit, in its epoch
 abbrev pub asked_at : EdgeTypes → Tables → Store → Origin → Write → AskedWrite
-asked_at types tables store origin write = asked_write types store.log_max store.epoch (tables store.name).log origin write
+asked_at types tables store origin write = asked_write types store.log_max store.epoch (tables store.name) origin write
 
 -- what a merge asks of a store over these tables: of its log, with its limit
 abbrev pub asked_merge_at : Tables → Store → ℕ → Job → AskedMerge
@@ -46,7 +46,7 @@ pub record WriteDone (tells : Bool) (at : StoreName) (asked : AskedWrite) (old n
   pub given : IfOk result (λ wrote. IfSome wrote.job IsGivenJob)
   -- the entry that was added stands in the store's table, with its job, and nothing else changed
   pub tables : WhereTold tells (TableGains old.told new.told at (added_entry result) (job_with asked.types (added_entry result)))
-  -- no log was cut
+  -- no entry is gone from a log
   pub logs : LogsGrow tells old.told new.told
   -- the note that is answered has seen the entry
   pub stands : IfOk result (λ wrote. IfSome wrote.entry (StandsIn wrote.note))
@@ -69,7 +69,7 @@ pub record MergeDone (tells : Bool) (at : StoreName) (asked : AskedMerge) (old n
   pub job : IfOk result (λ wrote. wrote.job ≡ None)
   -- the entry that was added stands in the store's table, without a job, and nothing else changed
   pub tables : WhereTold tells (TableGains old.told new.told at (added_entry result) None)
-  -- no log was cut
+  -- no entry is gone from a log
   pub logs : LogsGrow tells old.told new.told
   -- the note that is answered has seen the entry
   pub stands : IfOk result (λ wrote. IfSome wrote.entry (StandsIn wrote.note))

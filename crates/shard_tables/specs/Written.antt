@@ -1,5 +1,5 @@
 -- What a client's write does to the log of its shard, and what it is answered with.
-use Rattle.std.specs.Prelude.{ℕ, ◌+◌, ◌<◌, ◌≤◌, ◌≡◌, Bool, true, false, if◌then◌else◌, All, List, length, Option, Some, None, Result, Ok, Err, ⊤}
+use Rattle.std.specs.Prelude.{ℕ, ◌+◌, ◌<◌, ◌≤◌, ◌≡◌, Bool, true, false, if◌then◌else◌, All, List, length, Option, Some, None, IsSomeAnd, Result, Ok, Err, ⊤}
 use Rattle.tao_base.specs.EdgeTypes.{EdgeTypes}
 use Rattle.tao_base.specs.Keys.{key_shard}
 use Rattle.tao_base.specs.Writes.{write_kind}
@@ -14,39 +14,49 @@ use Rattle.graph_model.specs.Soundness.{IsNewOrigin}
 use Rattle.graph_model.specs.Told.{WhereTold}
 use Rattle.shard_log.specs.View.{View}
 use Rattle.write_model.specs.Writes.{FitsWrite, forward_entry}
-use Rattle.tao_keeper.specs.Table.{Tables, Stays, Becomes, after_commit}
+use Rattle.tao_keeper.specs.Table.{Table, Tables, Stays, Becomes, after_commit}
 use Rattle.tao_keeper.specs.declared.jobs.Job.{Job}
 use Rattle.write_touches.specs.Touching.{lacks_serial, lacks_stamp}
 use Rattle.shard_tables.specs.declared.refusal.StoreRefusal.{StoreRefusal}
-use Rattle.shard_tables.specs.declared.refusal.StoreRefusal.TheVariants.{KeeperFault, LogFull, ShardFull, StampFull, SeqReused, OutOfMemory}
+use Rattle.shard_tables.specs.declared.refusal.StoreRefusal.TheVariants.{KeeperFault, LogFull, ShardFull, StampFull, TooOld, SeqReused, OutOfMemory}
 use Rattle.shard_tables.specs.declared.writes.Wrote.{Wrote}
 
--- a write that is asked of a log: by these types, with so many entries at most, in the shard's epoch, under this origin
+-- a write that is asked of a log, of which so many entries are old: by these types, with so many entries at most, in the shard's epoch, under this origin
 pub record AskedWrite : Type 0 where
   pub types : EdgeTypes
   pub most : ℕ
   pub epoch : ℕ
   pub log : List Entry
+  pub cut : ℕ
   pub origin : Origin
   pub write : Write
 
--- the write that is asked of a log: by these types, with so many entries at most, in the shard's epoch, under this origin
-abbrev pub asked_write : EdgeTypes → ℕ → ℕ → List Entry → Origin → Write → AskedWrite
-asked_write types most epoch log origin write = record { types = types; most = most; epoch = epoch; log = log; origin = origin; write = write }
+-- the write that is asked of a table's log: by these types, with so many entries at most, in the shard's epoch, under this origin
+abbrev pub asked_write : EdgeTypes → ℕ → ℕ → Table → Origin → Write → AskedWrite
+asked_write types most epoch table origin write =
+    record { types = types; most = most; epoch = epoch; log = table.log; cut = table.cut; origin = origin; write = write }
 
 -- the entry at the position has the origin of the write
 pub record StandsAs (asked : AskedWrite) (position : ℕ) (entry : Entry) : Type 0 where
   pub stands : entry_at asked.log position ≡ Some entry
   pub origin_is : entry.origin ≡ asked.origin
 
--- the write was made before: the entry of its origin fits it
+-- the entry of the write's origin is an old one, at the position, at or below the cut
+pub record IsTooOld (asked : AskedWrite) (cut position : ℕ) : Type 0 where
+  pub cut_is : cut ≡ asked.cut
+  pub old : position ≤ asked.cut
+  pub stands : IsSomeAnd (entry_at asked.log position) (λ e. e.origin ≡ asked.origin)
+
+-- the write was made before: the entry of its origin is a live one, and fits it
 pub record IsRetry (asked : AskedWrite) (entry : Entry) : Type 0 where
   pub position : ℕ
+  pub live : asked.cut < position
   pub stands : StandsAs asked position entry
   pub fits : FitsWrite entry asked.write
 
--- the write's origin is that of another write's entry, at the position, which this write could not have made
+-- the write's origin is that of another write's entry, a live one at the position, which this write could not have made
 pub record IsReused (asked : AskedWrite) (position : ℕ) : Type 0 where
+  pub live : asked.cut < position
   pub entry : Entry
   pub stands : StandsAs asked position entry
   pub differs : ¬ FitsWrite entry asked.write
@@ -97,6 +107,7 @@ AnswersAs asked false None = FindsNothing asked
 -- what the answer of a write says of the log before it
 abbrev pub WriteAnswers : AskedWrite → Result Wrote StoreRefusal → Type 0
 WriteAnswers asked (Ok wrote) = AnswersAs asked wrote.retry wrote.entry
+WriteAnswers asked (Err (TooOld cut position)) = IsTooOld asked cut position
 WriteAnswers asked (Err (SeqReused position)) = IsReused asked position
 WriteAnswers asked (Err (ShardFull serial)) = IsShardFull asked serial
 WriteAnswers asked (Err (StampFull number)) = IsStampFull asked number

@@ -7,7 +7,8 @@ ghost use Rattle.shard_tables.specs.Refusals.{IsOfReads};
 ghost use Rattle.shard_tables.specs.Stores.{IsStoreOf};
 ghost use Rattle.shard_tables.specs.declared.store.StoreRole.TheVariants.{Master};
 ghost use Rattle.tao_keeper.specs.Growing.{LogsGrow};
-ghost use Rattle.tao_keeper.specs.KeeperState.{CallsKeeper, KeepsTables};
+ghost use Rattle.tao_keeper.specs.KeeperState.{CallsKeeper, IsCall, KeepsTables};
+ghost use Rattle.tao_keeper.specs.Table.{live_entry};
 ghost use Rattle.tao_keeper.specs.Given.{IsGivenEntry};
 
 use super::refusal::StoreRefusal;
@@ -17,14 +18,36 @@ use std::alloc::Global;
 use tao_base::{Entry, OutOfMemory, StoreName};
 use tao_keeper::{KeepFail, Keeper, MOST_ENTRIES};
 
-/// The first entries of the keeper's log, so many. A keeper that gives no entry at one of these positions tells nothing:
-/// then the entries before it are all that there are.
+/// The entry at a position of the log that a keeper has under the name, be it old or live, where that is its cut. One call of the keeper.
+pub fn any_entry<M: Keeper>(
+    keeper: &mut M,
+    at: StoreName,
+    cut: u64,
+    position: u64,
+) -> Result<Option<Entry>, KeepFail>
+    requires cut { WhereTold M.TELLS (cut ≡ ((M.state keeper.old).told at).cut) }
+    ensures answer { WhereTold M.TELLS (IfOk result (λ found. found ≡ entry_at ((M.state keeper.old).told at).log position)) }
+    ensures given { IfOk result (λ found. IfSome found IsGivenEntry) }
+    ensures stays { KeepsTables M.TELLS (M.state keeper.old) (M.state keeper.new) }
+    ensures call { IsCall (M.state keeper.old) (M.state keeper.new) result }
+{
+    if position <= cut {
+        keeper.old_entry(at, position)
+    } else {
+        keeper.entry(at, position)
+    }
+}
+
+/// The first entries of the keeper's log, so many, where that is its cut. A keeper that gives no entry at one of these positions
+/// tells nothing: then the entries before it are all that there are.
 fn first_entries<M: Keeper>(
     alloc: Global,
     keeper: &mut M,
     at: StoreName,
+    cut: u64,
     count: u64,
 ) -> Result<Vec<Entry>, KeepFail>
+    requires cut { WhereTold M.TELLS (cut ≡ ((M.state keeper.old).told at).cut) }
     requires few { count ≤ MOST_ENTRIES }
     requires all { WhereTold M.TELLS (count ≡ length ((M.state keeper.old).told at).log) }
     ensures entries { WhereTold M.TELLS (IfOk result (λ entries. entries.items ≡ ((M.state keeper.old).told at).log)) }
@@ -34,7 +57,7 @@ fn first_entries<M: Keeper>(
 {
     let mut entries = Vec::new(alloc);
     for place in 0..count {
-        let found = keeper.entry(at, place + 1)?;
+        let found = any_entry(keeper, at, cut, place + 1)?;
         match found {
             Some(entry) => entries.push(entry)?,
             None => return Ok(entries),
@@ -43,9 +66,9 @@ fn first_entries<M: Keeper>(
     Ok(entries)
 }
 
-/// All entries of the log that a keeper has under the name, in order. `Failed` comes only where the keeper's count of
-/// faults rose, and `OutOfMemory` where there was no memory. No table changes. Costs a call of the keeper for the length,
-/// and one for each entry.
+/// All entries of the log that a keeper has under the name, in order, the old ones and the live ones. `Failed` comes only where
+/// the keeper's count of faults rose, and `OutOfMemory` where there was no memory. No table changes. Costs two calls of the
+/// keeper for the length and the cut, and one for each entry.
 pub fn whole_log<M: Keeper>(
     alloc: Global,
     keeper: &mut M,
@@ -57,7 +80,8 @@ pub fn whole_log<M: Keeper>(
     ensures calls { CallsKeeper KeepFail.Failed (M.state keeper.old) (M.state keeper.new) result }
 {
     let count = keeper.length(at)?;
-    first_entries(alloc, keeper, at, count)
+    let cut = keeper.cut_of(at)?;
+    first_entries(alloc, keeper, at, cut, count)
 }
 
 impl StoreNode {
@@ -88,7 +112,7 @@ impl StoreNode {
     /// log may have `log_max` entries, at most 65,536.
     ///
     /// `KeeperFault` comes only where the keeper's count of faults rose, and `OutOfMemory` where there was no memory. No
-    /// table changes. Costs a call of the keeper for the length, and one for each entry.
+    /// table changes. Costs two calls of the keeper for the length and the cut, and one for each entry.
     pub fn open_master<M: Keeper>(
         alloc: Global,
         keeper: &mut M,
@@ -127,15 +151,16 @@ impl StoreNode {
         Ok(keeper.length(self.name())?)
     }
 
-    /// The entry at a position of the keeper's log, where there is one: none at 0 and past the end. `KeeperFault` comes
-    /// only where the keeper's count of faults rose, and `OutOfMemory` where there was no memory. One call of the keeper.
+    /// The live entry at a position of the keeper's log, where there is one: none up to the cut and past the end.
+    /// `KeeperFault` comes only where the keeper's count of faults rose, and `OutOfMemory` where there was no memory. One
+    /// call of the keeper.
     pub fn entry<M: Keeper>(
         &mut self,
         keeper: &mut M,
         position: u64,
     ) -> Result<Option<Entry>, StoreRefusal>
         requires keeper { IsStoreOf M.TELLS (M.state keeper.old).told self.old }
-        ensures answer { WhereTold M.TELLS (IfOk result (λ found. found ≡ entry_at ((M.state keeper.old).told self.old.name).log position)) }
+        ensures answer { WhereTold M.TELLS (IfOk result (λ found. found ≡ live_entry ((M.state keeper.old).told self.old.name) position)) }
         ensures given { IfOk result (λ found. IfSome found IsGivenEntry) }
         ensures refused { IfErr result IsOfReads }
         ensures tables { KeepsTables M.TELLS (M.state keeper.old) (M.state keeper.new) }

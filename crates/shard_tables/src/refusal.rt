@@ -17,6 +17,8 @@ pub enum StoreRefusal {
     ShardFull { serial: u64 },
     /// An edge that the write would stamp has a stamp of this number, which is the last.
     StampFull { number: u64 },
+    /// The entry of the write's origin stands at this position, and is old: it is at or below the cut.
+    TooOld { cut: u64, position: u64 },
     /// The entry at this position has the write's origin, and is of another write.
     SeqReused { position: u64 },
     /// There was no memory for the call, which may be made again.
@@ -31,6 +33,12 @@ impl fmt::Display for StoreRefusal {
             StoreRefusal::ShardFull { serial } => write!(f, "the shard is full: serial {serial}"),
             StoreRefusal::StampFull { number } => {
                 write!(f, "the edge's stamps are used up: {number}")
+            }
+            StoreRefusal::TooOld { cut, position } => {
+                write!(
+                    f,
+                    "the write's entry is old: position {position}, cut {cut}"
+                )
             }
             StoreRefusal::SeqReused { position } => {
                 write!(f, "another write has this number: position {position}")

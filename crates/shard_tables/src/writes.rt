@@ -1,5 +1,5 @@
 //! The writes of clients to a store.
-ghost use Rattle.std.specs.Prelude.{◌≡◌, ◌<◌, IfErr, IfOk, IsTrue, MatchResult, None, Some, false};
+ghost use Rattle.std.specs.Prelude.{◌≡◌, ◌<◌, IfErr, IfOk, IsSome, IsTrue, MatchResult, None, Some, false};
 ghost use Rattle.graph_model.specs.Soundness.{CanFollow, IsSoundOf, is_client, IsNewOrigin};
 ghost use Rattle.graph_model.specs.Log.{entry_at};
 ghost use Rattle.graph_model.specs.Told.{WhereTold};
@@ -7,7 +7,7 @@ ghost use Rattle.tao_base.specs.EdgeTypes.{InversesMatch};
 ghost use Rattle.tao_base.specs.Writes.{ChangesType, write_shard};
 ghost use Rattle.write_model.specs.Writes.{FitsWrite};
 ghost use Rattle.shard_log.specs.View.{as_note, most_entries};
-ghost use Rattle.shard_tables.specs.StoreCommits.{CanCommit, HasEntryAt, HasNoCommit, IsOfCommit, IsOtherWrite, IsRetried, OwesJob};
+ghost use Rattle.shard_tables.specs.StoreCommits.{CanCommit, HasEntryAt, HasNoCommit, IsOfCommit, IsLiveEntry, IsOtherWrite, IsRetried, OwesJob};
 ghost use Rattle.shard_tables.specs.Refusals.{IsOfReads};
 ghost use Rattle.shard_tables.specs.Stores.{IsStoreOf, length_of, note_of};
 ghost use Rattle.shard_tables.specs.WriteDone.{StoreGains, WriteDone, asked_at};
@@ -68,20 +68,20 @@ impl Wrote {
 }
 
 impl StoreNode {
-    /// Makes the write of a client at the shard's master, in the store's epoch: adds its entry to the log, in one transaction. A write whose
-    /// origin stands in the log is answered with that entry, and one that finds nothing to change with none; neither adds
-    /// anything. A refusal changes no table, and not the log. An entry that is answered is one that the write could have
-    /// made, and an object's addition has one, also over a keeper that tells nothing.
+    /// Makes the write of a client at the shard's master, in the store's epoch: adds its entry to the log, in one transaction.
+    /// A write whose origin stands in the log with a live entry is answered with that, and one that finds nothing to change
+    /// with none; neither adds anything. A refusal changes no table, and not the log. An entry that is answered is one that
+    /// the write could have made, and an object's addition has one, also over a keeper that tells nothing.
     ///
-    /// Refused, in this order: a write whose origin stands in the log with an entry of another write
-    /// (`SeqReused`), an object without a serial (`ShardFull`), an edge without a next stamp
-    /// (`StampFull`), an entry for which the log has no room (`LogFull`). `KeeperFault` comes only where
+    /// Refused, in this order: a write whose origin stands in the log with an old entry (`TooOld`) or with an
+    /// entry of another write (`SeqReused`), an object without a serial (`ShardFull`), an edge without a next
+    /// stamp (`StampFull`), an entry for which the log has no room (`LogFull`). `KeeperFault` comes only where
     /// the keeper's count of faults rose, and `OutOfMemory` where there was no memory.
     ///
-    /// Costs at most 12 calls of the keeper: one for the origin, and where that stands in the log one
-    /// for its entry. Else one for the object, the last serial or the record at id1, or two for the
-    /// records at id1 of both types; one for an object's touch and two for each touch of an edge, of
-    /// which there are four at most; and one for the commit.
+    /// Costs at most 12 calls of the keeper: one for the origin, and where that stands in the log two for its
+    /// entry and its job, or for its entry and the cut. Else one for the object, the last serial or the record
+    /// at id1, or two for the records at id1 of both types; one for an object's touch and two for each touch of
+    /// an edge, of which there are four at most; and one for the commit.
     pub fn write<M: Keeper>(
         &mut self,
         alloc: Global,
@@ -122,15 +122,16 @@ impl StoreNode {
     }
 }
 
-/// The entry at the position, where it is one that the write could have made.
+/// The live entry at the position, where it is one that the write could have made.
 fn entry_for<M: Keeper>(
     keeper: &mut M,
     at: StoreName,
     position: u64,
     write: &Write,
 ) -> Result<Entry, StoreRefusal>
-    ensures answer { WhereTold M.TELLS (MatchResult result (λ entry. entry_at ((M.state keeper.old).told at).log position ≡ Some entry)
-        (IsOtherWrite ((M.state keeper.old).told at).log position write.now)) }
+    requires stands { WhereTold M.TELLS (IsSome (entry_at ((M.state keeper.old).told at).log position)) }
+    ensures answer { WhereTold M.TELLS (MatchResult result (IsLiveEntry ((M.state keeper.old).told at) position)
+        (IsOtherWrite ((M.state keeper.old).told at) position write.now)) }
     ensures fits { IfOk result (λ entry. FitsWrite entry write.now) }
     ensures stays { KeepsTables M.TELLS (M.state keeper.old) (M.state keeper.new) }
     ensures calls { CallsKeeper StoreRefusal.KeeperFault (M.state keeper.old) (M.state keeper.new) result }
@@ -144,8 +145,11 @@ fn entry_for<M: Keeper>(
                 Err(StoreRefusal::SeqReused { position })
             }
         }
-        // Not of a keeper that tells its tables: it knows the origin, and not the entry.
-        None => Err(StoreRefusal::SeqReused { position }),
+        // It stands in the log, and isn't live.
+        None => {
+            let cut = keeper.cut_of(at)?;
+            Err(StoreRefusal::TooOld { cut, position })
+        }
     }
 }
 
@@ -157,8 +161,9 @@ fn write_again<M: Keeper>(
     write: &Write,
     note: Note,
 ) -> Result<Wrote, StoreRefusal>
+    requires stands { WhereTold M.TELLS (IsSome (entry_at ((M.state keeper.old).told at).log position)) }
     ensures answer { WhereTold M.TELLS (MatchResult result (HasEntryAt ((M.state keeper.old).told at) position)
-        (IsOtherWrite ((M.state keeper.old).told at).log position write.now)) }
+        (IsOtherWrite ((M.state keeper.old).told at) position write.now)) }
     ensures retried { IfOk result (IsRetried write.now note) }
     ensures stays { KeepsTables M.TELLS (M.state keeper.old) (M.state keeper.new) }
     ensures calls { CallsKeeper StoreRefusal.KeeperFault (M.state keeper.old) (M.state keeper.new) result }

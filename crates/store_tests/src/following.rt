@@ -1,5 +1,5 @@
 //! A slave's store that follows its master's, step by step. Each of them has a keeper of its own.
-ghost use Rattle.std.specs.Prelude.{◌≡◌, IfOk};
+ghost use Rattle.std.specs.Prelude.{◌≡◌, ◌≤◌, IfOk, IsTrue, length};
 ghost use Rattle.keeper_map.specs.MapKeeper.{told_by};
 ghost use Rattle.store_tests.specs.Stores.{AreSound, Follows};
 ghost use Rattle.tao_base.specs.declared.id.StoreName.{StoreName};
@@ -13,6 +13,7 @@ use shard_tables::StoreNode;
 use std::alloc::Global;
 use std::process::Abort;
 use std::test::Fail;
+use tao_keeper::{KeepFail, Keeper};
 use tao_schema::Schema;
 
 #[derive(Clone, Copy, Debug)]
@@ -36,6 +37,22 @@ enum Came {
     Verdict(Applied),
 }
 
+/// Whether the master's next entry is a live one: the cut of its log is within what the slave has.
+fn is_live(
+    master: &StoreNode,
+    near: &mut MapKeeper,
+    slave: &StoreNode,
+    far: &mut MapKeeper,
+) -> Result<bool, KeepFail>
+    ensures live { IfOk result (λ live. IsTrue live → (told_by near.new master.now.name).cut ≤ length (told_by far.new slave.now.name).log) }
+    ensures near { Stays (told_by near.old) (told_by near.new) }
+    ensures far { Stays (told_by far.old) (told_by far.new) }
+{
+    let cut = near.cut_of(master.name())?;
+    let length = far.length(slave.name())?;
+    Ok(cut <= length)
+}
+
 /// Moves the master's next entry to the slave.
 fn move_next(
     master: &mut StoreNode,
@@ -47,6 +64,9 @@ fn move_next(
     ensures follows { Follows (told_by near.new) (told_by far.new) master.new slave.new }
     ensures stays { Stays (told_by near.old) (told_by near.new) }
 {
+    if !is_live(master, near, slave, far)? {
+        return Err("an old entry")?;
+    }
     let moved = Follow::make().step(master, near, slave, far)?;
     Ok(Came::Moved(moved.map(|entry| entry.position)))
 }

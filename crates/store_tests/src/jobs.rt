@@ -23,7 +23,7 @@ use tao_keeper::{Job, JobEdge, JobEdges, KeepFail, Keeper, STAMP_LIMIT};
 const POSITION: u64 = 3;
 
 /// The record that a cut left at the other end.
-fn cut_end() -> Result<JobEdge, &'static str> {
+pub(crate) fn cut_end() -> Result<JobEdge, &'static str> {
     let far = Id::read(FAR).ok_or("an id")?;
     let near = Id::read(1).ok_or("an id")?;
     let stamp = Stamp {
@@ -34,7 +34,7 @@ fn cut_end() -> Result<JobEdge, &'static str> {
 }
 
 /// Whether the record is of an edge from the shard of the other ends to the first shard, with a small stamp.
-fn is_of_there(end: &JobEdge) -> bool
+pub(crate) fn is_of_there(end: &JobEdge) -> bool
     ensures here { IsTrue result → shard_of end.now.0 ≡ 1 }
     ensures there { IsTrue result → shard_of end.now.2 ≡ 0 }
     ensures small { IsTrue result → (stamp_of end.now.3).number < STAMP_LIMIT }
@@ -55,7 +55,7 @@ fn find_no_merge(keeper: &mut MapKeeper) -> Result<bool, KeepFail>
 }
 
 /// The job that has this record alone.
-fn job_of(alloc: Global, end: JobEdge) -> Result<Job, AllocError>
+pub(crate) fn job_of(alloc: Global, end: JobEdge) -> Result<Job, AllocError>
     ensures position { IfOk result (λ job. job.position ≡ POSITION) }
     ensures edges { IfOk result (λ job. job.edges ≡ end ∷ []) }
 {

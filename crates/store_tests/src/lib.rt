@@ -1,5 +1,6 @@
 //! Tests of the stores, of what stands between them and of what they are made of, by public calls alone, of what no line can ask for:
-//! bytes and streams from outside, a log under two threads, a stand-in for a leader, repairs between two stores, and stores of one log.
+//! bytes and streams from outside, a log under two threads, a stand-in for a leader, repairs between two stores, stores of one log, and a
+//! log that is trimmed.
 //! They stand above the crates that they test, so that none of these is proved twice.
 #![tactic(auto)]
 
@@ -23,5 +24,9 @@ mod repairs;
 mod rig;
 #[cfg(test)]
 mod streams_of_bytes;
+#[cfg(test)]
+mod trims;
+#[cfg(test)]
+mod two_parts;
 #[cfg(test)]
 mod two_threads;

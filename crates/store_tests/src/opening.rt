@@ -14,7 +14,7 @@ use tao_base::StoreName;
 use tao_schema::Schema;
 
 /// Writes the store's log: an object for each of these numbers.
-fn write_log(
+pub(crate) fn write_log(
     alloc: Global,
     keeper: &mut MapKeeper,
     schema: &Schema,

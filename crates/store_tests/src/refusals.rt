@@ -2,7 +2,7 @@
 use shard_tables::StoreRefusal;
 use std::test::Fail;
 
-const TEXTS: [(StoreRefusal, &str); 4] = [
+const TEXTS: [(StoreRefusal, &str); 5] = [
     (
         StoreRefusal::ShardFull { serial: 7 },
         "the shard is full: serial 7",
@@ -10,6 +10,13 @@ const TEXTS: [(StoreRefusal, &str); 4] = [
     (
         StoreRefusal::StampFull { number: 7 },
         "the edge's stamps are used up: 7",
+    ),
+    (
+        StoreRefusal::TooOld {
+            cut: 8,
+            position: 7,
+        },
+        "the write's entry is old: position 7, cut 8",
     ),
     (
         StoreRefusal::SeqReused { position: 7 },

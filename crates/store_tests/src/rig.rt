@@ -67,6 +67,22 @@ pub(crate) fn empty_keeper(alloc: Global) -> MapKeeper
     MapKeeper::make(alloc, fails)
 }
 
+/// A keeper that nothing was written to, of whose calls the one with this number fails.
+pub(crate) fn keeper_failing_at(alloc: Global, number: Option<u64>) -> Result<MapKeeper, AllocError>
+    ensures sound { IfOk result (λ keeper. (types : EdgeTypes) → AreSound types (told_by keeper)) }
+{
+    let mut calls = Vec::new(alloc);
+    if let Some(number) = number {
+        calls.push(number)?;
+    }
+    let fails = Fails {
+        calls,
+        commits: Vec::new(alloc),
+        from: None,
+    };
+    Ok(MapKeeper::make(alloc, fails))
+}
+
 /// The master's store of this name.
 pub(crate) fn open_master(
     alloc: Global,

@@ -48,7 +48,7 @@ returns-in-Some-clause-done g c =
     subst (λ t. StandsAt t.log c.args.origin (Some position)) (sym (stays told self.name))
     (subst (StandsAt (old.told self.name).log c.args.origin) c.in-Some.is (c.in_ok-begun.ensures.answer told)) in
     let answer = subst (λ n. WhereTold tells (MatchResult c.write_again.result (HasEntryAt (mid.told n) position)
-    (IsOtherWrite (mid.told n).log position c.args.write.now))) at_is c.write_again.ensures.answer in
+    (IsOtherWrite (mid.told n) position c.args.write.now))) at_is c.write_again.ensures.answer in
     write_since tells types self c.args.origin c.args.write.now old mid new c.write_again.result stays
     (record { calls = c.in_ok-begun.ensures.calls.calls; faults = c.in_ok-begun.ensures.calls.faults })
     (write_repeated tells types self c.args.origin c.args.write.now position c.in_ok-begun.begun.note mid new c.requires.master

@@ -20,7 +20,7 @@ pub use calls::{
 pub use lists::{Lengths, Message, Messages};
 pub use nodes::{
     CacheReply, DeliveredReply, KeptOrNot, NodeReply, NotKept, NotKeptWhy, Refilled, Repaired,
-    Shown, ShownItem, StreamVerdict, Streamed,
+    Shown, ShownItem, StreamVerdict, Streamed, Trimmed,
 };
 pub use opening::OpenRefusal;
 pub use plans::{PlanReply, Stage};

@@ -9,6 +9,7 @@ use words::{DeliveryWord, HealthWord, LinkWord};
 pub enum NodeReply {
     Cache(CacheReply),
     Streamed(Streamed),
+    Trimmed(Trimmed),
     Repaired(Repaired),
     /// A node was put down or up, or a tier changed its trust in a leader.
     Health { word: HealthWord, changed: bool },
@@ -23,6 +24,13 @@ pub struct Streamed {
     pub hops: u64,
     pub next: u64,
     pub verdict: StreamVerdict,
+}
+
+/// The first entries of a store's log, so many, are old now; how many nodes began anew for it.
+#[derive(Clone, Copy, PartialEq, Eq)]
+pub struct Trimmed {
+    pub cut: u64,
+    pub reset: u64,
 }
 
 /// The first open job of a shard was run: the position of the entry that left it, 0 where no job was
@@ -90,7 +98,7 @@ pub enum NotKeptWhy {
     Bound,
     /// As many asks were open as a node may have.
     Asks,
-    /// The node went down since the ask began.
+    /// The node went down or was reset since the ask began.
     Lost,
     /// The fill's source had seen less than the ask's mark.
     Mark,

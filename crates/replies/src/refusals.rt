@@ -90,6 +90,9 @@ pub enum When {
 /// Why a store could not do what was asked.
 #[derive(Clone, Copy, PartialEq, Eq)]
 pub enum StoreRefused {
+    /// The entry of the session's write of that number is old: it stands at the position, at or below the cut, and what it was
+    /// isn't told any more.
+    TooOld { cut: u64, position: u64 },
     /// The session's write of that number stands at the position, and is another one.
     SeqReused { position: u64 },
     /// The shard has its last serial.

@@ -17,6 +17,7 @@ use Rattle.replies.specs.declared.nodes.Shown.TheVariants.{Nothing, Held}
 use Rattle.replies.specs.declared.nodes.ShownItem.{ShownItem}
 use Rattle.replies.specs.declared.nodes.ShownItem.TheVariants.{Object as ObjectItem, List as ListItem}
 use Rattle.replies.specs.declared.nodes.Streamed.{Streamed}
+use Rattle.replies.specs.declared.nodes.Trimmed.{Trimmed}
 use Rattle.reply_json.specs.Json.{fields, given, text, whole}
 use Rattle.reply_json.specs.Texts.{not_kept_text, verdict_text}
 use Rattle.reply_json.specs.Values.{object_data, edges_data, messages_data}
@@ -90,6 +91,10 @@ streamed_data r =
     fields ((codes "hops", whole r.hops) ∷ (codes "next", whole r.next) ∷ (codes "ok", text (word_text word.Stream))
     ∷ (codes "verdict", text (verdict_text r.verdict)) ∷ [])
 
+-- a trim is told by the store's cut, and how many nodes were reset for it
+abbrev pub trimmed_data : Trimmed → Data
+trimmed_data r = fields ((codes "cut", whole r.cut) ∷ (codes "ok", text (word_text word.Trim)) ∷ (codes "reset", whole r.reset) ∷ [])
+
 -- a repair is told by its hops, its job, and whether it wrote an entry
 abbrev pub repaired_data : Repaired → Data
 repaired_data r =
@@ -99,6 +104,7 @@ repaired_data r =
 abbrev pub node_data : Settings → NodeReply → Data
 node_data s (node.Cache reply) = cache_data s reply
 node_data s (node.Streamed r) = streamed_data r
+node_data s (node.Trimmed r) = trimmed_data r
 node_data s (node.Repaired r) = repaired_data r
 node_data s (node.Health which changed) = fields ((codes "changed", boolean changed) ∷ (codes "ok", text (word_text (word.Health which))) ∷ [])
 node_data s (node.Link which) = fields ((codes "ok", text (word_text (word.Link which))) ∷ [])

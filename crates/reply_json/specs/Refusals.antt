@@ -14,7 +14,7 @@ use Rattle.replies.specs.declared.refusals.Refusal.TheVariants.{Line, Plan, Sess
 use Rattle.replies.specs.declared.refusals.SessionRefused.{SessionRefused}
 use Rattle.replies.specs.declared.refusals.SessionRefused.TheVariants.{NoSession, SessionThere, SessionFull}
 use Rattle.replies.specs.declared.refusals.StoreRefused.{StoreRefused}
-use Rattle.replies.specs.declared.refusals.StoreRefused.TheVariants.{SeqReused, ShardFull, StampFull, LogFull, KeeperFault, LinkFault, Unsettled}
+use Rattle.replies.specs.declared.refusals.StoreRefused.TheVariants.{TooOld, SeqReused, ShardFull, StampFull, LogFull, KeeperFault, LinkFault, Unsettled}
 use Rattle.replies.specs.declared.refusals.When.{When}
 use Rattle.replies.specs.declared.refusals.When.TheVariants.{Before, After}
 use Rattle.words.specs.Words.{word_text}
@@ -98,8 +98,13 @@ node_refused s (NoEntry length position) = no_such_entry length position
 node_refused s (NoServer region) = about_name (codes "no_server") (region_name s.regions region)
 node_refused s (NodeDown node when) = node_down (node_text s node) when
 
+-- an entry at the position, at or below the cut, is old
+abbrev pub too_old : ℕ → ℕ → Data
+too_old cut position = fields ((codes "cut", whole cut) ∷ (codes "no", text (codes "too_old")) ∷ (codes "position", whole position) ∷ [])
+
 -- what a store could not do is told by the number that stood against it
 abbrev pub store_refused : StoreRefused → Data
+store_refused (TooOld cut position) = too_old cut position
 store_refused (SeqReused position) = about_number (codes "seq_reused") (codes "position") position
 store_refused (ShardFull serial) = about_number (codes "shard_full") (codes "serial") serial
 store_refused (StampFull number) = about_number (codes "stamp_full") (codes "number") number

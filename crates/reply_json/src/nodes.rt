@@ -1,7 +1,7 @@
 //! The replies about nodes: caches, stores and the links between them.
 ghost use Rattle.std.specs.Prelude.{◌≡◌, option_map};
 ghost use Rattle.reply_json.specs.Nodes.{cache_data, delivered_data, had, is_kept, item_data, needs, node_data, not_kept_why, refilled_data};
-ghost use Rattle.reply_json.specs.Nodes.{repaired_data, shown_data, streamed_data};
+ghost use Rattle.reply_json.specs.Nodes.{repaired_data, shown_data, streamed_data, trimmed_data};
 ghost use Rattle.reply_json.specs.Said.{said_value};
 ghost use Rattle.reply_json.specs.Writing.{Puts};
 
@@ -11,7 +11,7 @@ use crate::texts::{not_kept_text, verdict_text};
 use json::Writer;
 use replies::{
     CacheReply, DeliveredReply, KeptOrNot, NodeReply, Refilled, Repaired, Shown, ShownItem,
-    Streamed,
+    Streamed, Trimmed,
 };
 use std::alloc::AllocError;
 use topology::Config;
@@ -27,6 +27,7 @@ pub(crate) fn put_node(
     match reply {
         NodeReply::Cache(reply) => put_cache(out, config, reply),
         NodeReply::Streamed(streamed) => put_streamed(out, streamed),
+        NodeReply::Trimmed(trimmed) => put_trimmed(out, trimmed),
         NodeReply::Repaired(repaired) => put_repaired(out, repaired),
         NodeReply::Health { word, changed } => {
             put_members(
@@ -53,6 +54,19 @@ fn put_streamed(out: &mut Writer, streamed: &Streamed) -> Result<(), AllocError>
             ("next", Said::Whole(streamed.next)),
             ("ok", Said::Text(Word::Stream.text())),
             ("verdict", Said::Text(verdict_text(streamed.verdict))),
+        ],
+    )
+}
+
+fn put_trimmed(out: &mut Writer, trimmed: &Trimmed) -> Result<(), AllocError>
+    ensures { Puts result out.old out.new (trimmed_data trimmed.now) }
+{
+    put_members(
+        out,
+        &[
+            ("cut", Said::Whole(trimmed.cut)),
+            ("ok", Said::Text(Word::Trim.text())),
+            ("reset", Said::Whole(trimmed.reset)),
         ],
     )
 }

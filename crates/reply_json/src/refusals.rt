@@ -1,6 +1,6 @@
 //! Refusals: each is told by its name, and by what it is about.
 ghost use Rattle.std.specs.Prelude.{◌≡◌};
-ghost use Rattle.reply_json.specs.Refusals.{about_name, about_number, is_master, line_refused, link_fault, name_refused, no_such_entry, node_down};
+ghost use Rattle.reply_json.specs.Refusals.{about_name, about_number, is_master, line_refused, link_fault, name_refused, no_such_entry, node_down, too_old};
 ghost use Rattle.reply_json.specs.Refusals.{node_refused, number_about, plan_refused, refusal_data, session_refused, store_refused, when_position};
 ghost use Rattle.reply_json.specs.Writing.{Puts};
 
@@ -249,6 +249,7 @@ fn put_store_refused(out: &mut Writer, refused: &StoreRefused) -> Result<(), All
     ensures { Puts result out.old out.new (store_refused refused.now) }
 {
     match refused {
+        StoreRefused::TooOld { cut, position } => put_too_old(out, *cut, *position),
         StoreRefused::SeqReused { position } => put_about_number(
             out,
             "seq_reused",
@@ -286,6 +287,19 @@ fn put_store_refused(out: &mut Writer, refused: &StoreRefused) -> Result<(), All
             )
         }
     }
+}
+
+fn put_too_old(out: &mut Writer, cut: u64, position: u64) -> Result<(), AllocError>
+    ensures { Puts result out.old out.new (too_old cut position) }
+{
+    put_members(
+        out,
+        &[
+            ("cut", Said::Whole(cut)),
+            ("no", Said::Text("too_old")),
+            ("position", Said::Whole(position)),
+        ],
+    )
 }
 
 fn put_link_fault(out: &mut Writer, count: u64, when: When) -> Result<(), AllocError>

@@ -3,6 +3,7 @@ use Rattle.std.specs.Prelude.{ℕ, List, ◌++◌, Option, None, Some, if◌then
 use Rattle.tao_base.specs.Ids.{shard_of}
 use Rattle.tao_base.specs.declared.id.AType.{AType}
 use Rattle.tao_base.specs.declared.id.OType.{OType}
+use Rattle.tao_base.specs.declared.id.StoreName.{StoreName}
 use Rattle.tao_schema.specs.AssocTypes.{atype_at, names_of}
 use Rattle.tao_schema.specs.Names.{place_of}
 use Rattle.tao_schema.specs.ObjectTypes.{otype_at}
@@ -48,6 +49,13 @@ otype_named s name = needed (UnknownType name) (option_map otype_at (place_of s.
 -- shards are numbered from 0
 abbrev pub configured_shard : Settings → ℕ → Result ⊤ NameRefused
 configured_shard s shard = refused_unless (NoShard shard) (nat_lt shard s.shards)
+
+-- the store of a region's name and a shard: the region is looked up first, then the shard checked
+abbrev pub store_named : Settings → List ℕ → ℕ → Result StoreName NameRefused
+store_named s name shard = do
+  region ← region_named s name
+  there ← configured_shard s shard
+  Ok (record { region = region; shard = shard })
 
 -- an id lies on a shard
 abbrev pub configured_id : Settings → ℕ → Result ⊤ NameRefused

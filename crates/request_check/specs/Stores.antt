@@ -1,5 +1,5 @@
 -- What is asked of stores: the region first, then the shard.
-use Rattle.std.specs.Prelude.{ℕ, ◌<◌, length, List, Option, Result, Ok, ⊤}
+use Rattle.std.specs.Prelude.{ℕ, ◌<◌, length, Result, Ok, ⊤}
 use Rattle.tao_base.specs.Queries.{query_key}
 use Rattle.topology.specs.Config.{Settings}
 use Rattle.replies.specs.declared.refusals.NameRefused.{NameRefused}
@@ -10,16 +10,9 @@ use Rattle.words.specs.declared.Word.TheVariants as word
 use Rattle.request_check.specs.declared.stores.CheckedStore.{CheckedStore}
 use Rattle.request_check.specs.declared.stores.CheckedStore.TheVariants as checked
 use Rattle.request_check.specs.Calls.{checked_read_call}
-use Rattle.request_check.specs.Names.{configured_shard, placed_as, region_named}
+use Rattle.request_check.specs.Names.{configured_shard, placed_as, store_named}
 use Rattle.request_check.specs.Placed.{IsPlacedKey}
 use Rattle.outcomes.specs.Results.{◌>>=◌}
-
--- a `stream` with its region looked up by name, then its shard checked; without a position it is about the entry that the store takes next
-abbrev pub checked_stream : Settings → List ℕ → ℕ → Option ℕ → Result CheckedStore NameRefused
-checked_stream s name shard position = do
-  region ← region_named s name
-  there ← configured_shard s shard
-  Ok (checked.Stream region shard position)
 
 -- a `repair` with its shard checked; whether a job is open there isn't looked at
 abbrev pub checked_repair : Settings → ℕ → Result CheckedStore NameRefused
@@ -27,9 +20,11 @@ checked_repair s shard = do
   there ← configured_shard s shard
   Ok (checked.Repair shard)
 
--- what is asked of stores, with what it names looked up: each word has its row
+-- what is asked of stores, with what it names looked up: each word has its row. A `stream` without a position is about the entry that the store takes
+-- next; whether an entry stands at a position isn't looked at
 abbrev pub checked_store : Settings → StoreRequest → Result CheckedStore NameRefused
-checked_store s (request.Stream region shard position) = checked_stream s region shard position
+checked_store s (request.Stream region shard position) = placed_as (λ store. checked.Stream store.region store.shard position) (store_named s region shard)
+checked_store s (request.Trim region shard position) = placed_as (λ store. checked.Trim store.region store.shard position) (store_named s region shard)
 checked_store s (request.Repair shard) = checked_repair s shard
 checked_store s request.Settle = Ok checked.Settle
 checked_store s (request.Audit read) = placed_as checked.Audit (checked_read_call s read)
@@ -37,13 +32,19 @@ checked_store s (request.Audit read) = placed_as checked.Audit (checked_read_cal
 -- the word of a request of stores that was checked
 abbrev pub checked_store_word : CheckedStore → Word
 checked_store_word (checked.Stream region shard position) = word.Stream
+checked_store_word (checked.Trim region shard position) = word.Trim
 checked_store_word (checked.Repair shard) = word.Repair
 checked_store_word checked.Settle = word.Settle
 checked_store_word (checked.Audit read) = word.Audit
 
+-- the store's region and its shard are the configuration's
+abbrev pub IsPlacedAt : Settings → ℕ → ℕ → Type 0
+IsPlacedAt s region shard = (region < length s.regions) × (shard < s.shards)
+
 -- each region and shard is configured
 abbrev pub IsPlacedStore : Settings → CheckedStore → Type 0
-IsPlacedStore s (checked.Stream region shard position) = (region < length s.regions) × (shard < s.shards)
+IsPlacedStore s (checked.Stream region shard position) = IsPlacedAt s region shard
+IsPlacedStore s (checked.Trim region shard position) = IsPlacedAt s region shard
 IsPlacedStore s (checked.Repair shard) = shard < s.shards
 IsPlacedStore s checked.Settle = ⊤
 IsPlacedStore s (checked.Audit call) = IsPlacedKey s (query_key call.query)

@@ -9,7 +9,7 @@ use crate::refusal::NameError;
 use node_name::NodeName;
 use replies::NameRefused;
 use std::alloc::{AllocError, Global};
-use tao_base::{AType, Id, OType, Text};
+use tao_base::{AType, Id, OType, StoreName, Text};
 use topology::Config;
 
 /// A tier: the place of its region, and its own in that region.
@@ -29,7 +29,7 @@ pub(crate) struct Names<'c> {
 impl Names<'_> {
     ghost use Rattle.std.specs.Prelude.{◌≡◌, IfOk};
     ghost use Rattle.request_check.specs.Names.{settings, region_named, tier_named, atype_named, otype_named, configured_shard, configured_id};
-    ghost use Rattle.request_check.specs.Names.{tier_text, node_named};
+    ghost use Rattle.request_check.specs.Names.{tier_text, node_named, store_named};
 
     pub(crate) fn region(&self, name: &str) -> Result<u16, NameError>
         ensures { Gives name_unless_memory result (region_named (settings self.now) name.now) }
@@ -103,6 +103,15 @@ impl Names<'_> {
         } else {
             Err(NameError::Refused(NameRefused::NoShard { shard }))
         }
+    }
+
+    /// The store of a region's name and a shard: the region is looked up first.
+    pub(crate) fn store(&self, region: &str, shard: u16) -> Result<StoreName, NameError>
+        ensures { Gives name_unless_memory result (store_named (settings self.now) region.now shard) }
+    {
+        let region = self.region(region)?;
+        self.shard(shard)?;
+        Ok(StoreName { region, shard })
     }
 
     /// Refuses an id of a shard that isn't configured.

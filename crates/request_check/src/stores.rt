@@ -2,14 +2,13 @@
 ghost use Rattle.outcomes.specs.Results.{Gives};
 ghost use Rattle.request_check.specs.Refusal.{name_unless_memory};
 ghost use Rattle.request_check.specs.Names.{settings};
-ghost use Rattle.request_check.specs.Stores.{checked_repair, checked_store, checked_stream};
+ghost use Rattle.request_check.specs.Stores.{checked_repair, checked_store};
 
 use crate::calls::checked_read_call;
 use crate::checked::CheckedRead;
 use crate::names::Names;
 use crate::refusal::NameError;
 use requests::StoreRequest;
-use tao_base::Text;
 
 /// What is asked of stores.
 #[derive(Drop)]
@@ -19,6 +18,12 @@ pub enum CheckedStore {
         region: u16,
         shard: u16,
         position: Option<u64>,
+    },
+    /// The entries up to the position are old from then on.
+    Trim {
+        region: u16,
+        shard: u16,
+        position: u64,
     },
     Repair {
         shard: u16,
@@ -38,28 +43,30 @@ pub(crate) fn checked_store(
             region,
             shard,
             position,
-        } => checked_stream(names, region, *shard, *position),
+        } => {
+            let store = names.store(region.as_str(), *shard)?;
+            Ok(CheckedStore::Stream {
+                region: store.region,
+                shard: store.shard,
+                position: *position,
+            })
+        }
+        StoreRequest::Trim {
+            region,
+            shard,
+            position,
+        } => {
+            let store = names.store(region.as_str(), *shard)?;
+            Ok(CheckedStore::Trim {
+                region: store.region,
+                shard: store.shard,
+                position: *position,
+            })
+        }
         StoreRequest::Repair { shard } => checked_repair(names, *shard),
         StoreRequest::Settle => Ok(CheckedStore::Settle),
         StoreRequest::Audit(call) => checked_read_call(names, call).map(CheckedStore::Audit),
     }
-}
-
-fn checked_stream(
-    names: &Names<'_>,
-    region: &Text,
-    shard: u16,
-    position: Option<u64>,
-) -> Result<CheckedStore, NameError>
-    ensures { Gives name_unless_memory result (checked_stream (settings names.now) region.now shard position) }
-{
-    let region = names.region(region.as_str())?;
-    names.shard(shard)?;
-    Ok(CheckedStore::Stream {
-        region,
-        shard,
-        position,
-    })
 }
 
 fn checked_repair(names: &Names<'_>, shard: u16) -> Result<CheckedStore, NameError>

@@ -17,7 +17,7 @@ use Rattle.request_json.specs.Health.{health_of}
 use Rattle.request_json.specs.Links.{link_of}
 use Rattle.request_json.specs.Plans.{planning_of}
 use Rattle.request_json.specs.Sessions.{open_of}
-use Rattle.request_json.specs.Stores.{audit_of, repair_of, settle_of, stream_of}
+use Rattle.request_json.specs.Stores.{audit_of, repair_of, settle_of, stream_of, trim_of}
 use Rattle.request_json.specs.Word.{word_of}
 use Rattle.outcomes.specs.Results.{◌>>=◌, needed}
 
@@ -34,6 +34,7 @@ request_of word.Refill d = read_as request.Cache (refilling_of d)
 request_of word.Evict d = read_as request.Cache (evict_of d)
 request_of word.Show d = read_as request.Cache (show_of d)
 request_of word.Stream d = read_as request.Store (stream_of d)
+request_of word.Trim d = read_as request.Store (trim_of d)
 request_of word.Repair d = read_as request.Store (repair_of d)
 request_of word.Settle d = read_as request.Store (settle_of d)
 request_of word.Audit d = read_as request.Store (audit_of d)

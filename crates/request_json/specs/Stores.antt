@@ -22,6 +22,15 @@ stream_of d = do
   known ← only_fields (codes "do" ∷ codes "region" ∷ codes "shard" ∷ codes "position" ∷ []) d
   Ok (request.Stream region shard position)
 
+-- the fields of `trim`: a region's name, a shard, and the position of the last entry that is to be old
+abbrev pub trim_of : Data → Result StoreRequest LineRefusal
+trim_of d = do
+  region ← text_field (codes "region") d
+  shard ← shard_field d
+  position ← number_field (codes "position") 1 (2 ^ 64 - 1) d
+  known ← only_fields (codes "do" ∷ codes "region" ∷ codes "shard" ∷ codes "position" ∷ []) d
+  Ok (request.Trim region shard position)
+
 -- the fields of `repair`: the shard whose first job is run
 abbrev pub repair_of : Data → Result StoreRequest LineRefusal
 repair_of d = do

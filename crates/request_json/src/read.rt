@@ -13,7 +13,7 @@ use crate::links::link_of;
 use crate::plans::planning_of;
 use crate::refusal::LineRefusal;
 use crate::sessions::open_of;
-use crate::stores::{audit_of, repair_of, settle_of, stream_of};
+use crate::stores::{audit_of, repair_of, settle_of, stream_of, trim_of};
 use crate::word::word_of;
 use json_fields::json::parse;
 use requests::{Call, Request};
@@ -59,6 +59,7 @@ fn request_of(word: Word, fields: &Fields<'_>) -> Result<Request, LineRefusal>
         Word::Evict => evict_of(fields).map(Request::Cache),
         Word::Show => show_of(fields).map(Request::Cache),
         Word::Stream => stream_of(fields).map(Request::Store),
+        Word::Trim => trim_of(fields).map(Request::Store),
         Word::Repair => repair_of(fields).map(Request::Store),
         Word::Settle => settle_of(fields).map(Request::Store),
         Word::Audit => audit_of(fields).map(Request::Store),

@@ -2,7 +2,7 @@
 ghost use Rattle.outcomes.specs.Results.{Gives};
 ghost use Rattle.request_json.specs.Refusal.{unless_memory};
 ghost use Rattle.request_json.specs.Fields.{said};
-ghost use Rattle.request_json.specs.Stores.{audit_of, repair_of, settle_of, stream_of};
+ghost use Rattle.request_json.specs.Stores.{audit_of, repair_of, settle_of, stream_of, trim_of};
 
 use crate::fields::{Fields, bad_line};
 use crate::inner::{asked_within, inner_read_of};
@@ -18,6 +18,20 @@ pub(crate) fn stream_of(fields: &Fields<'_>) -> Result<StoreRequest, LineRefusal
     let position = fields.maybe_number("position", 1, u64::MAX)?;
     fields.only(&["do", "region", "shard", "position"])?;
     Ok(StoreRequest::Stream {
+        region,
+        shard,
+        position,
+    })
+}
+
+pub(crate) fn trim_of(fields: &Fields<'_>) -> Result<StoreRequest, LineRefusal>
+    ensures { Gives unless_memory result (trim_of (said fields.now)) }
+{
+    let region = fields.text("region")?;
+    let shard = fields.short("shard")?;
+    let position = fields.number("position", 1, u64::MAX)?;
+    fields.only(&["do", "region", "shard", "position"])?;
+    Ok(StoreRequest::Trim {
         region,
         shard,
         position,

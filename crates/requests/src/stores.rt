@@ -15,6 +15,12 @@ pub enum StoreRequest {
         shard: u16,
         position: Option<u64>,
     },
+    /// The entries up to the position are old from then on.
+    Trim {
+        region: Text,
+        shard: u16,
+        position: u64,
+    },
     Repair {
         shard: u16,
     },
@@ -29,6 +35,7 @@ impl StoreRequest {
     {
         match self {
             StoreRequest::Stream { .. } => Word::Stream,
+            StoreRequest::Trim { .. } => Word::Trim,
             StoreRequest::Repair { .. } => Word::Repair,
             StoreRequest::Settle => Word::Settle,
             StoreRequest::Audit(_) => Word::Audit,

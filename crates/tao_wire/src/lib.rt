@@ -9,8 +9,8 @@ pub use replies::{
     CacheReply, CallReply, DeliveredReply, InverseEnd, KeptOrNot, Lengths, LineRefused, Message,
     Messages, NameRefused, NodeRefused, NodeReply, NotKept, NotKeptWhy, OpenRefusal, PlanRefused,
     PlanReply, ReadReply, Refilled, Refusal, Repaired, Reply, ScheduledWhy, SessionRefused, Shown,
-    ShownItem, Stage, StoreRefused, StreamVerdict, Streamed, UnsettledWhy, When, WriteKind,
-    WriteReply, Written,
+    ShownItem, Stage, StoreRefused, StreamVerdict, Streamed, Trimmed, UnsettledWhy, When,
+    WriteKind, WriteReply, Written,
 };
 pub use reply_json::{bad_configuration_text, reply_text};
 pub use request_json::{LineRefusal, read_request};

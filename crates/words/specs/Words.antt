@@ -7,8 +7,8 @@ use Rattle.words.specs.declared.PlanWord.TheVariants.{Hold, Advance}
 use Rattle.words.specs.declared.ReadWord.TheVariants.{ObjGet, AssocGet, AssocCount, AssocRange, AssocTimeRange}
 use Rattle.words.specs.declared.WriteWord.TheVariants.{ObjAdd, ObjUpdate, ObjDelete, AssocAdd, AssocDelete, AssocChangeType}
 use Rattle.words.specs.declared.Word.{Word}
-use Rattle.words.specs.declared.Word.TheVariants.{Open, Write, Read, Plan, Delivery, Drop, Refill, Stream, Repair, Evict, Show, Inbox, Health, Link}
-use Rattle.words.specs.declared.Word.TheVariants.{Settle, Audit}
+use Rattle.words.specs.declared.Word.TheVariants.{Open, Write, Read, Plan, Delivery, Drop, Refill, Stream, Trim, Repair, Evict, Show, Inbox, Health}
+use Rattle.words.specs.declared.Word.TheVariants.{Link, Settle, Audit}
 
 -- each word as it stands in a line
 abbrev pub word_text : Word → List ℕ
@@ -31,6 +31,7 @@ word_text (Delivery Again) = codes "again"
 word_text Drop = codes "drop"
 word_text Refill = codes "refill"
 word_text Stream = codes "stream"
+word_text Trim = codes "trim"
 word_text Repair = codes "repair"
 word_text Evict = codes "evict"
 word_text Show = codes "show"
@@ -48,7 +49,7 @@ word_text Audit = codes "audit"
 abbrev pub all_words : List Word
 all_words = Read ObjGet ∷ Read AssocGet ∷ Read AssocCount ∷ Read AssocRange ∷ Read AssocTimeRange
     ∷ Open ∷ Write ObjAdd ∷ Write ObjUpdate ∷ Write ObjDelete ∷ Write AssocAdd ∷ Write AssocDelete ∷ Write AssocChangeType
-    ∷ Plan Hold ∷ Plan Advance ∷ Delivery Deliver ∷ Delivery Again ∷ Drop ∷ Refill ∷ Stream ∷ Repair ∷ Evict ∷ Show ∷ Inbox
+    ∷ Plan Hold ∷ Plan Advance ∷ Delivery Deliver ∷ Delivery Again ∷ Drop ∷ Refill ∷ Stream ∷ Trim ∷ Repair ∷ Evict ∷ Show ∷ Inbox
     ∷ Health Down ∷ Health Up ∷ Health Suspect ∷ Health Trust ∷ Link Cut ∷ Link Mend ∷ Settle ∷ Audit ∷ []
 
 -- the word that this text spells; None where it is no word

@@ -1,6 +1,6 @@
 //! The words of the store's lines: what a request's `do` may be, and what a reply's `ok` says it is for.
 //!
-//! What it promises. Each of the 31 words has one text, and is found by it.
+//! What it promises. Each of the 32 words has one text, and is found by it.
 //!
 //! The contracts that say so: `Word::text`, `Word::of`.
 #![tactic(auto)]
@@ -70,6 +70,7 @@ pub enum Word {
     Drop,
     Refill,
     Stream,
+    Trim,
     Repair,
     Evict,
     Show,
@@ -82,7 +83,7 @@ pub enum Word {
 
 impl Word {
     /// All words: the reads first, since they are asked for most.
-    pub const ALL: [Word; 31] = [
+    pub const ALL: [Word; 32] = [
         Word::Read(ReadWord::ObjGet),
         Word::Read(ReadWord::AssocGet),
         Word::Read(ReadWord::AssocCount),
@@ -102,6 +103,7 @@ impl Word {
         Word::Drop,
         Word::Refill,
         Word::Stream,
+        Word::Trim,
         Word::Repair,
         Word::Evict,
         Word::Show,
@@ -149,6 +151,7 @@ impl Word {
             Word::Drop => "drop",
             Word::Refill => "refill",
             Word::Stream => "stream",
+            Word::Trim => "trim",
             Word::Repair => "repair",
             Word::Evict => "evict",
             Word::Show => "show",

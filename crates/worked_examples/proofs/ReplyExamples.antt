@@ -13,6 +13,7 @@ examples_of_calls = record {
   scheduled = refl;
   not_kept = refl;
   streamed = refl;
+  trimmed = refl;
   repaired = refl;
   settled = refl;
 }
@@ -39,6 +40,7 @@ examples_of_refusals = record {
   is_master = refl;
   no_entry = refl;
   node_down = refl;
+  too_old = refl;
   link_fault = refl;
   unsettled = refl;
 }

@@ -10,7 +10,7 @@ use Rattle.replies.specs.declared.lists.Message.{Message}
 use Rattle.replies.specs.declared.nodes.CacheReply.TheVariants.{Delivered, Evicted, Inbox, Lost, Refilled, Shown}
 use Rattle.replies.specs.declared.nodes.KeptOrNot.{KeptOrNot}
 use Rattle.replies.specs.declared.nodes.KeptOrNot.TheVariants.{Not}
-use Rattle.replies.specs.declared.nodes.NodeReply.TheVariants.{Cache, Health, Link, Repaired, Streamed}
+use Rattle.replies.specs.declared.nodes.NodeReply.TheVariants.{Cache, Health, Link, Repaired, Streamed, Trimmed}
 use Rattle.replies.specs.declared.nodes.NotKeptWhy.TheVariants.{Floor}
 use Rattle.replies.specs.declared.nodes.Shown.TheVariants.{Held}
 use Rattle.replies.specs.declared.nodes.ShownItem.TheVariants.{Object}
@@ -20,7 +20,7 @@ use Rattle.replies.specs.declared.plans.Stage.TheVariants as stage
 use Rattle.replies.specs.declared.refusals.NodeRefused.TheVariants.{IsMaster, NoEntry, NoRefill, NodeDown}
 use Rattle.replies.specs.declared.refusals.PlanRefused.TheVariants.{NoPlan}
 use Rattle.replies.specs.declared.refusals.Refusal.TheVariants as refused
-use Rattle.replies.specs.declared.refusals.StoreRefused.TheVariants.{LinkFault, Unsettled}
+use Rattle.replies.specs.declared.refusals.StoreRefused.TheVariants.{LinkFault, TooOld, Unsettled}
 use Rattle.replies.specs.declared.refusals.UnsettledWhy.TheVariants as unsettled
 use Rattle.replies.specs.declared.refusals.When.TheVariants.{After, Before}
 use Rattle.replies.specs.declared.reply.Reply.TheVariants.{BadStores, Called, Node, Plan, Refused, Settled}
@@ -66,8 +66,8 @@ deleted = Write (record {
 })
 
 -- a fill is of version 5, and 6 was wanted
-abbrev pub too_old : KeptOrNot
-too_old = Not (record { why = Floor; have = 5; need = 6 })
+abbrev pub stale_fill : KeptOrNot
+stale_fill = Not (record { why = Floor; have = 5; need = 6 })
 
 -- a list was counted, and the fill not kept
 abbrev pub counted : CallReply
@@ -77,7 +77,7 @@ counted = Read (record {
   version = 1;
   hops = 2;
   store = true;
-  kept = too_old;
+  kept = stale_fill;
 })
 
 -- of calls and plans, stores and streams
@@ -92,6 +92,7 @@ pub record CallsByExample : Type 0 where
       ≡ codes "{\"count\":1,\"have\":5,\"hops\":2,\"kept\":false,\"need\":6,\"ok\":\"assoc_count\",\"plan\":4,\"store\":true,\"version\":1,\"why\":\"floor\"}"
   pub streamed : reply_text west (Node (Streamed (record { hops = 1; next = 5; verdict = Applied })))
       ≡ codes "{\"hops\":1,\"next\":5,\"ok\":\"stream\",\"verdict\":\"applied\"}"
+  pub trimmed : reply_text west (Node (Trimmed (record { cut = 2; reset = 1 }))) ≡ codes "{\"cut\":2,\"ok\":\"trim\",\"reset\":1}"
   pub repaired : reply_text west (Node (Repaired (record { hops = 0; job = 0; wrote = false })))
       ≡ codes "{\"hops\":0,\"job\":0,\"ok\":\"repair\",\"wrote\":false}"
   pub settled : reply_text west (Settled (2 ∷ 3 ∷ [])) ≡ codes "{\"logs\":[2,3],\"ok\":\"settle\"}"
@@ -103,7 +104,7 @@ pub record NodesByExample : Type 0 where
   pub delivered : reply_text west (Node (Cache (Delivered (record { word = Again; dropped = 1; mark = 2; message = third }))))
       ≡ codes "{\"dropped\":1,\"mark\":2,\"ok\":\"again\",\"position\":3,\"shard\":4}"
   pub lost : reply_text west (Node (Cache (Lost third))) ≡ codes "{\"ok\":\"drop\",\"position\":3,\"shard\":4}"
-  pub refilled : reply_text west (Node (Cache (Refilled (record { hops = 2; store = true; version = 7; kept = too_old }))))
+  pub refilled : reply_text west (Node (Cache (Refilled (record { hops = 2; store = true; version = 7; kept = stale_fill }))))
       ≡ codes "{\"have\":5,\"hops\":2,\"kept\":false,\"need\":6,\"ok\":\"refill\",\"store\":true,\"version\":7,\"why\":\"floor\"}"
   pub evicted : reply_text west (Node (Cache (Evicted true))) ≡ codes "{\"evicted\":true,\"ok\":\"evict\"}"
   pub shown : reply_text west (Node (Cache (Shown 8 (Held 9 (Object None)))))
@@ -119,6 +120,7 @@ pub record RefusalsByExample : Type 0 where
   pub no_entry : reply_text west (Refused (refused.Node (NoEntry 3 4))) ≡ codes "{\"length\":3,\"no\":\"no_entry\",\"position\":4}"
   pub node_down : reply_text west (Refused (refused.Node (NodeDown (Leader 0 0) Before)))
       ≡ codes "{\"name\":\"west/leader/0\",\"no\":\"node_down\",\"position\":0,\"when\":\"before\"}"
+  pub too_old : reply_text west (Refused (refused.Store (TooOld 2 1))) ≡ codes "{\"cut\":2,\"no\":\"too_old\",\"position\":1}"
   pub link_fault : reply_text west (Refused (refused.Store (LinkFault 4 (After 5))))
       ≡ codes "{\"count\":4,\"no\":\"link_fault\",\"position\":5,\"when\":\"after\"}"
   pub unsettled : reply_text west (Refused (refused.Store (Unsettled 1 unsettled.LogFull)))

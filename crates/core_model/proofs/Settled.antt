@@ -18,7 +18,7 @@ use Rattle.topology.specs.States.{is_up}
 use Rattle.core_model.specs.Consistent.{GoesOn, HasReached, IsConsistent, IsNodeOf, MarksGoOn}
 use Rattle.core_model.specs.Emptied.{IsAtStore}
 use Rattle.core_model.specs.Fleet.{region_of}
-use Rattle.core_model.specs.Growing.{StoresGrow}
+use Rattle.core_model.specs.Growing.{TablesGoOn}
 use Rattle.core_model.specs.Pens.{IsSeen, pens_of, view_or_none}
 use Rattle.core_model.specs.States.{AreUpAtStores, ComeUpAtStores, HaveSameLogs, NodesNow, SettledStays}
 use Rattle.core_model.specs.StoreLaws.{LogsFollow}
@@ -84,7 +84,7 @@ module _ (s : Settings) (tables : Tables) (stores : List Store) where
   logs_follow = record { follows = log_follows; tells = seen_tells }
 
   -- the logs that a node serves are told
-  node_tells : (name : NodeName) (node : Node) → HaveMasterRegions s → AreStoresOf true s tables stores → IsNodeOf s (pens_of stores) name node
+  pub node_tells : (name : NodeName) (node : Node) → HaveMasterRegions s → AreStoresOf true s tables stores → IsNodeOf s (pens_of stores) name node
       → AreTold node.served
   node_tells name node regions are is shard t at =
       let served : IsServed node.served shard = rw at refl in
@@ -94,7 +94,7 @@ module _ (s : Settings) (tables : Tables) (stores : List Store) where
 -- ---- until a log grows
 
 module _ (s : Settings) (before after : Tables) (old new : NodesNow) (regions : HaveMasterRegions s) (was : IsConsistent true s before old.fleet)
-    (are : IsConsistent true s after new.fleet) (grow : StoresGrow true s before after) (same : HaveSameLogs s before after) (whole : AreWhole s before) where
+    (are : IsConsistent true s after new.fleet) (grow : TablesGoOn true s before after) (same : HaveSameLogs s before after) (whole : AreWhole s before) where
   still_whole : AreWhole s after
   still_whole at here =
       let begins = log_follows s after new.fleet.stores at regions are.stores here in

@@ -4,16 +4,21 @@ use Rattle.graph_model.specs.Log.{entry_at}
 use Rattle.graph_model.specs.Told.{WhereTold}
 use Rattle.tao_base.specs.declared.entry.Entry.{Entry}
 use Rattle.tao_base.specs.declared.id.StoreName.{StoreName}
-use Rattle.tao_keeper.specs.Growing.{LogsGrow}
+use Rattle.tao_keeper.specs.Growing.{CutsStay, LogsGrow}
 use Rattle.tao_keeper.specs.Table.{Becomes, Tables, after_commit}
 use Rattle.topology.specs.Config.{Settings}
 use Rattle.core_model.specs.Stores.{IsConfiguredStore, master_log, master_of}
 
--- logs only grow, only those of the configuration's stores do, and no line changes
-pub record StoresGrow (tells : Bool) (s : Settings) (old new : Tables) : Type 0 where
+-- logs only grow, only tables of the configuration's stores change, and no line does
+pub record TablesGoOn (tells : Bool) (s : Settings) (old new : Tables) : Type 0 where
   pub logs : LogsGrow tells old new
   pub lines : WhereTold tells ((at : StoreName) → (new at).line ≡ (old at).line)
   pub others : WhereTold tells ((at : StoreName) → (IsConfiguredStore s at → ⊥) → new at ≡ old at)
+
+-- so they do, and no log is cut
+pub record StoresGrow (tells : Bool) (s : Settings) (old new : Tables) : Type 0 where
+  pub on : TablesGoOn tells s old new
+  pub cuts : CutsStay tells old new
 
 -- a slave takes the entry of its shard's log that it lacks next, and no other table changes
 pub record TakesNext (s : Settings) (at : StoreName) (entry : Entry) (old new : Tables) : Type 0 where

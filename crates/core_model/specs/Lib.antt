@@ -1,6 +1,7 @@
 pub mod Asked
 pub mod Asks
 pub mod Consistent
+pub mod Cuts
 pub mod Emptied
 pub mod Evictions
 pub mod Fleet

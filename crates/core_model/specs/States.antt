@@ -7,7 +7,7 @@ use Rattle.topology.specs.States.{NodeStates, is_up}
 use Rattle.core_model.specs.Consistent.{GoesOn, IsConsistent}
 use Rattle.core_model.specs.Emptied.{IsAtStore}
 use Rattle.core_model.specs.Fleet.{EachIs, Fleet, region_of, regions_of}
-use Rattle.core_model.specs.Growing.{StoresGrow}
+use Rattle.core_model.specs.Growing.{TablesGoOn}
 use Rattle.core_model.specs.Stores.{AreWhole, HaveMasterRegions, master_log}
 
 -- the states are of the configuration's nodes, whichever of them are up or trusted
@@ -51,4 +51,4 @@ HaveSameLogs s old new = (shard : ℕ) → shard < s.shards → master_log s new
 -- what is settled stays so, whichever nodes are emptied, go down and come up, until a log grows
 pub record SettledStays (s : Settings) (before after : Tables) (old new : NodesNow) : Type 0 where
   pub stay : HaveMasterRegions s → IsConsistent true s before old.fleet → IsConsistent true s after new.fleet → GoesOn old.fleet new.fleet
-      → ComeUpAtStores after old new → StoresGrow true s before after → HaveSameLogs s before after → AreSettled s before old → AreSettled s after new
+      → ComeUpAtStores after old new → TablesGoOn true s before after → HaveSameLogs s before after → AreSettled s before old → AreSettled s after new

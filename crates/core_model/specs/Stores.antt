@@ -1,5 +1,5 @@
 -- The stores of a configuration: one for each region and shard, of which one is the shard's master.
-use Rattle.std.specs.Prelude.{ℕ, ◌≡◌, ◌<◌, ◌+◌, ◌*◌, ◌==◌, List, Bool, Some, if◌then◌else◌, length, refl, slice_get, unwrap_or, ◌%◌}
+use Rattle.std.specs.Prelude.{ℕ, ◌≡◌, ◌≤◌, ◌<◌, ◌+◌, ◌*◌, ◌==◌, List, Bool, Some, if◌then◌else◌, length, refl, slice_get, unwrap_or, ◌%◌}
 use Rattle.tao_base.specs.declared.entry.Entry.{Entry}
 use Rattle.tao_base.specs.declared.id.StoreName.{StoreName}
 use Rattle.graph_model.specs.Soundness.{IsSoundOf}
@@ -92,10 +92,21 @@ HaveSeen tells tables stores = (place : ℕ) (store : Store) → slice_get store
 abbrev pub FollowMasters : List Store → Type 0
 FollowMasters stores = (place : ℕ) (store : Store) → slice_get stores place ≡ Some store → IsSeen (pens_of stores) store.name.shard store.view
 
+-- each store of a shard has come to each cut of that shard's logs: what a cut made old, every store has taken
+pub record ComeToCuts (s : Settings) (tables : Tables) : Type 0 where
+  pub come : (at other : StoreName) → IsConfiguredStore s at → IsConfiguredStore s other → other.shard ≡ at.shard
+      → (tables other).cut ≤ length (tables at).log
+
+-- the logs of all shards are sound, what is missing at the other end of an edge is owed by an open job, and each store has come to the cuts
+pub record AreInOrder (s : Settings) (tables : Tables) : Type 0 where
+  pub kept : AreKeptIn s tables
+  pub cuts : ComeToCuts s tables
+
 -- the stores are those of the configuration, and may be used with keepers that tell these tables
 pub record AreStoresOf (tells : Bool) (s : Settings) (tables : Tables) (stores : List Store) : Type 0 where
   pub configured : AreStores s (store_count s) stores
   pub kept : WhereTold tells (AreKeptIn s tables)
+  pub cuts : WhereTold tells (ComeToCuts s tables)
   pub seen : HaveSeen tells tables stores
   pub follow : FollowMasters stores
 

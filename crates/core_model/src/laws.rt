@@ -2,6 +2,8 @@
 ghost use Rattle.std.specs.Prelude.{ℕ, ◌≡◌, Bool, List, Some, slice_get};
 ghost use Rattle.cache_items.specs.Node.{Node};
 ghost use Rattle.core_model.specs.Asks.{AsksStayOn};
+ghost use Rattle.core_model.specs.Cuts.{AtStoresIsPast, NodesStayPastCuts};
+ghost use Rattle.core_model.specs.Fleet.{Fleet};
 ghost use Rattle.core_model.specs.Laws.{ChoicesServe, FollowersStay, JobsStayOwed, MessagesStay, NodesAskOn, NodesMarkOn, NodesStay, NodesStaySeen};
 ghost use Rattle.core_model.specs.Items.{ItemsStay};
 ghost use Rattle.core_model.specs.Laws.{NodesAreToldAs, NodesReachNoFurther, NodesStayAtStores, ReadsAreLegal, RightNodesStay, ServesItsTurn};
@@ -100,6 +102,18 @@ pub fn logs_follow()
 #[tactic(auto, using(crate::proofs::Settled::settled_stays))]
 pub fn settled_stays()
     ensures { (s : Settings) (before : Tables) (after : Tables) (old : NodesNow) (new : NodesNow) → SettledStays s before after old new }
+{}
+
+/// No node falls behind a cut of its region's stores, until a log is cut.
+#[tactic(auto, using(crate::proofs::PastCuts::nodes_stay_past_cuts))]
+pub fn nodes_stay_past_cuts()
+    ensures { (s : Settings) (before : Tables) (after : Tables) (old : Fleet) (new : Fleet) → NodesStayPastCuts s before after old new }
+{}
+
+/// A node that has processed all that its region's stores have is past their cuts.
+#[tactic(auto, using(crate::proofs::PastCuts::at_stores_is_past))]
+pub fn at_stores_is_past()
+    ensures { (s : Settings) (tables : Tables) (region : ℕ) (node : Node) → AtStoresIsPast s tables region node }
 {}
 
 /// What a node serves is told only where the tables are.

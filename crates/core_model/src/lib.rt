@@ -12,13 +12,15 @@
 //! answers, are legal; asks go on, and no low-water mark falls; an item stays but where its key is the stage's;
 //! a message stays one for its node; who is chosen for a shard serves it; a store is found by its name and role,
 //! and its log begins its shard's log; what is settled stays so until a log grows; a job stays owed, and one that
-//! was merged stays merged, as long as logs grow (`jobs_stay_owed`); a node is found by its name; the names of a
-//! configuration, the places of its stores, and the shards of each turn, exactly.
+//! was merged stays merged, as long as logs grow (`jobs_stay_owed`); no node falls behind a cut of its region's
+//! stores until a log is cut, and one that has processed all that these have is past them; a node is found by its
+//! name; the names of a configuration, the places of its stores, and the shards of each turn, exactly.
 //!
 //! The contracts that say so: `named_place`, `find_node`, `leader_names`, `follower_names`, `served_by`,
 //! `store_place`, `role_in`; the laws `nodes_stay`, `named_nodes_stay`, `followers_stay`, `messages_stay`,
 //! `nodes_stay_seen`, `nodes_reach`, `reads_are_legal`, `nodes_ask_on`, `nodes_mark_on`, `items_stay`, `asks_stay_on`,
-//! `nodes_serve`, `choices_serve`, `stores_found`, `stores_go_on`, `logs_follow`, `settled_stays`.
+//! `nodes_serve`, `choices_serve`, `stores_found`, `stores_go_on`, `logs_follow`, `settled_stays`,
+//! `nodes_stay_past_cuts`, `at_stores_is_past`.
 #![tactic(auto)]
 
 mod asked;

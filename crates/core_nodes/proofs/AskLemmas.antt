@@ -34,6 +34,7 @@ use Rattle.core_model.proofs.KeptStores.{kept_stays}
 use Rattle.core_model.proofs.Legal.{reads_are_legal}
 use Rattle.core_model.proofs.MarkingOn.{nodes_mark_on}
 use Rattle.core_model.proofs.NodesSeen.{nodes_stay_seen}
+use Rattle.core_model.proofs.PastCuts.{come_same}
 use Rattle.core_model.proofs.Staying.{nodes_stay}
 use Rattle.core_model.proofs.Turns.{serves_its_turn}
 use Rattle.core_model.specs.Consistent.{GoesOn, IsConsistent, IsFleetOf, IsNodeOf}
@@ -56,6 +57,7 @@ pub stores_here : (tells : Bool) (s : Settings) (old new : Tables) (stores : Lis
 stores_here tells s old new stores are stays = record {
   configured = are.configured;
   kept = λ told. kept_stays s old new (stays told) (are.kept told);
+  cuts = λ told. come_same s old new (stays told) (are.cuts told);
   seen = seen_stay tells old new stores are.seen stays;
   follow = are.follow;
 }

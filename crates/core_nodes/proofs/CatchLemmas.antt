@@ -40,10 +40,12 @@ use Rattle.core_model.proofs.AskingOn.{nodes_ask_on}
 use Rattle.core_model.proofs.AsksOn.{asks_go_on, asks_stay}
 use Rattle.core_model.proofs.MarkingOn.{marks_go_on, marks_stay, nodes_mark_on}
 use Rattle.core_model.proofs.NodesSeen.{served-at}
+use Rattle.core_model.proofs.PastCuts.{stays_past}
 use Rattle.core_model.proofs.Reaching.{nodes_reach}
 use Rattle.core_model.proofs.Staying.{nodes_stay}
 use Rattle.core_model.proofs.Turns.{serves_its_turn, turn_of}
 use Rattle.core_model.specs.Consistent.{HasReached, IsNodeOf}
+use Rattle.core_model.specs.Cuts.{IsPastCuts}
 use Rattle.core_model.specs.Fleet.{region_of, regions_of, serves_in_turn}
 use Rattle.core_model.specs.Messages.{Processes}
 use Rattle.core_model.specs.Pens.{Pens, pens_of}
@@ -213,6 +215,7 @@ module _ (tells : Bool) (s : Settings) (tables : Tables) (pens : Pens) (name : N
       configured = may.configured;
       node = may.node;
       reached = λ told. so_before (λ t. HasReached t (region_of name) node) before tables (stays told) (may.reached told);
+      past = λ told. so_before (λ t. IsPastCuts t (region_of name) node) before tables (stays told) (may.past told);
     }
 
     pub goes_before : (old new : Node) → NodeGoesOn Logs name old new → NodeGoesOn Before name old new
@@ -244,6 +247,12 @@ module _ (tells : Bool) (s : Settings) (tables : Tables) (stores : List Store) (
   known shard told here =
       known_store s tables stores (subst (λ b. AreStoresOf b s tables stores) told are) (OwnStore shard) (record { region = there; shard = here })
 
+  told_all : (node : Node) → IsNodeOf s (pens_of stores) name node → tells ≡ true → AreTold node.served
+  told_all node is told shard t at =
+      let seen = served-at (pens_of stores) shard node.served t is.seen at in
+      let turn = turn_of s (pens_of stores) name node shard is (some_is (served_at shard node.served) t at) in
+      ap (λ l. l.told) (sym seen.log_is) ∙ (known shard told turn.0).told
+
   -- it processes the rest of a log
   pub goes_processed : (shard : ℕ) (es : List Entry) (note : View) (old new : Node) → MayCatchUp Own name old → shard < s.shards
       → IsRestOf Own (OwnStore shard) (low_at shard old.served) es note → NodeDoes (Processes shard es note old new) old new → NodeGoesOn Own name old new
@@ -258,6 +267,9 @@ module _ (tells : Bool) (s : Settings) (tables : Tables) (stores : List Store) (
           reached = λ told.
               (nodes_reach tables (region_of name)).processes shard es note old new does.does
               (rest_within log low es (known shard told here).sound.sound (rest.entries_are told)) (may.reached told);
+          past = λ told.
+              stays_past (region_of name) tables tables old new (nodes_mark_on.processes shard es note old new does.does) (told_all old may.node told)
+              (λ k. refl) (may.past told);
         };
         asks = nodes_ask_on.processes shard es note old new does.does;
         on = record {
@@ -287,12 +299,6 @@ module _ (tells : Bool) (s : Settings) (tables : Tables) (stores : List Store) (
     pub seen : Grows t.view (pens_of stores shard)
     pub truth : IsTrueServed t
     pub known : IsKnownStore s tables (pens_of stores) (OwnStore shard)
-
-  told_all : (node : Node) → IsNodeOf s (pens_of stores) name node → tells ≡ true → AreTold node.served
-  told_all node is told shard t at =
-      let seen = served-at (pens_of stores) shard node.served t is.seen at in
-      let turn = turn_of s (pens_of stores) name node shard is (some_is (served_at shard node.served) t at) in
-      ap (λ l. l.told) (sym seen.log_is) ∙ (known shard told turn.0).told
 
   pub has_of : (node : Node) (shard : ℕ) (t : ServedShard) → IsNodeOf s (pens_of stores) name node → tells ≡ true → served_at shard node.served ≡ Some t
       → HasOf shard t
@@ -479,6 +485,16 @@ module _ (tells : Bool) (s : Settings) (tables : Tables) (stores : List Store) (
         let turn = (serves_its_turn s (pens_of stores) name old at.shard).serves may.node here.shard serves in
         let own = log_of_shard (pens_of stores) at.shard s name old may.node turn ∙ ap Some is.follow.log_is in
         subst (λ (n : StoreName). log_at n.shard old.served ≡ Some store.view.log) (sym is.found.name_is) own
+
+    -- it has processed what is old there
+    pub past_there : WhereTold tells ((tables store.name).cut ≤ low_at store.name.shard old.served)
+    past_there told =
+        let some = some_served old.served at.shard ((serves_its_turn s (pens_of stores) name old at.shard).serves may.node here.shard serves) in
+        let low : low_at at.shard old.served ≡ some.0.marks.low = rw some.1 refl in
+        let past = (may.past told).past at.shard some.0 some.1 in
+        let own : (tables at).cut ≤ low_at at.shard old.served =
+        subst (λ n. (tables n).cut ≤ low_at at.shard old.served) named_at (omega (arith, past, low)) in
+        subst (λ (n : StoreName). (tables n).cut ≤ low_at n.shard old.served) (sym is.found.name_is) own
 
     pub touches_there : WhereTold tells (TouchShard store.name.shard (tables store.name).log)
     touches_there told =

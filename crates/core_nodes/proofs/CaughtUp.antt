@@ -14,7 +14,7 @@ use Rattle.core_model.specs.Stores.{AreWhole, HaveMasterRegions, master_of, regi
 use Rattle.core_nodes.specs.Ends.{AllHoldLast, HoldsLast, NodesCatchUp}
 use Rattle.core_nodes.specs.Settling.{AllCatchUp}
 use Rattle.core_nodes.proofs.CatchLemmas.{last_held}
-use Rattle.core_nodes.proofs.FleetSettles.{followers_are, leaders_are}
+use Rattle.core_nodes.proofs.FleetSettles.{follower_named, leader_named}
 use Rattle.core_nodes.proofs.RegionNames.{configured_region}
 
 module _ (s : Settings) (tables : Tables) where
@@ -32,12 +32,12 @@ module _ (s : Settings) (tables : Tables) where
   all_last : (now : NodesNow) → IsConsistent true s tables now.fleet → AreSettled s tables now → AllHoldLast s tables now
   all_last now is settled = record {
     leaders = λ place name node at up. (
-        let may = leaders_are true s tables now.fleet is place (named name node) at in
-        node_last now.fleet name node is settled.whole (configured_region s name may.configured) may.node
+        let there = leader_named s now.fleet place (named name node) is.fleet at in
+        node_last now.fleet name node is settled.whole (configured_region s name there) (is.fleet.leaders place name node at)
         (settled.ends.leaders place name node at up));
     followers = λ place name follower at up. (
-        let may = followers_are true s tables now.fleet is place (named name follower) at in
-        node_last now.fleet name follower.node is settled.whole (configured_region s name may.configured) may.node
+        let there = follower_named s now.fleet place (named name follower) is.fleet at in
+        node_last now.fleet name follower.node is settled.whole (configured_region s name there) (is.fleet.followers place name follower at).node
         (settled.ends.followers place name follower at up));
   }
 

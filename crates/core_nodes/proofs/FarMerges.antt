@@ -9,7 +9,7 @@ use Rattle.core_model.specs.Pens.{Rise, pens_of}
 use Rattle.core_model.specs.StoreLaws.{StoreGoesOn}
 use Rattle.core_model.specs.Jobs.{IsOwedJob, MergesOwed, ShardJob, far_shard}
 use Rattle.core_model.specs.Stores.{AreKeptIn, AreStoresOf, IsConfiguredStore, master_log, master_store}
-use Rattle.core_nodes.proofs.GrowingLemmas.{gains_stores, stays_stores}
+use Rattle.core_nodes.proofs.GrowingLemmas.{gains_stores, in_order_on, stays_stores}
 use Rattle.core_nodes.proofs.JobLemmas.{due, is_merged, may_be_merged, merge_keeps, merges_owed}
 use Rattle.core_nodes.proofs.MasterStores.{IsMasterRead, goes_same, pen_is, pens_rise, stores_left}
 use Rattle.core_nodes.proofs.StoreLemmas.{OthersStay, goes_with, others_stay}
@@ -180,9 +180,8 @@ module _ (s : Settings) (j : ShardJob) (from : StoreName) (x : Store) (from_is :
         (λ told. gains_due old.told new.told merges)
   ]
   grown_there tells old new configured logs false unheard ways = record {
-    logs = logs;
-    lines = λ told. absurd (cc);
-    others = λ told. absurd (cc);
+    on = record { logs = logs; lines = λ told. absurd (cc); others = λ told. absurd (cc) };
+    cuts = record { cuts = λ told. absurd (cc) };
   }
 
   -- ---- what was answered
@@ -293,6 +292,8 @@ module _ (tells : Bool) (s : Settings) (j : ShardJob) where
       λ told. stays_or_merges s j from x from_is is.named is.limit new.link.failed before after r (took.merges told) in
       let kept : WhereTold tells (AreKeptIn s after) =
       λ told. kept_after s j from x from_is is.named is.limit tells old.keepers new.keepers far owed match are.kept some told (ways told) in
+      let grown : StoresGrow tells s before after =
+      grown_there s j from x from_is is.named is.limit tells old.keepers new.keepers is.configured took.logs tells refl ways in
       record {
         merges = merges_there s j from x from_is is.named is.limit tells old.keepers new.keepers far owed match are.kept some old.link new.link r
             took.merges took.carries;
@@ -302,7 +303,7 @@ module _ (tells : Bool) (s : Settings) (j : ShardJob) where
             (lies_by tells s far_at after x y far is.named is.role took.keeper kept r took.to);
         stores = stores_left tells s before after xs far_at place x y are is goes took.keeper
             (λ told. subst (OthersStay before after) (sym is.named)
-            (others s j from x from_is is.named is.limit before after (ways told))) kept;
+            (others s j from x from_is is.named is.limit before after (ways told))) (in_order_on tells s before after are.cuts kept grown);
         rise = pens_rise tells s before after xs far_at place x y are is goes;
-        grows = grown_there s j from x from_is is.named is.limit tells old.keepers new.keepers is.configured took.logs tells refl ways;
+        grows = grown;
       }

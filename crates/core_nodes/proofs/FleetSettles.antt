@@ -21,13 +21,15 @@ use Rattle.core_model.proofs.Refilling.{followers_stay}
 use Rattle.core_model.specs.Asks.{AsksGoOn}
 use Rattle.topology.specs.States.{NodeStates, is_up}
 use Rattle.core_model.specs.Consistent.{GoesOn, HasReached, HaveReached, IsConsistent, IsFleetOf, IsFollowerOf, IsNodeOf, MarksGoOn}
+use Rattle.core_model.specs.Cuts.{ArePastCuts}
 use Rattle.core_model.specs.Emptied.{region_tables}
 use Rattle.core_model.specs.Fleet.{EachNode, Fleet, follower_names, leader_names, named, node_names, region_of}
 use Rattle.core_model.specs.Pens.{pens_of}
 use Rattle.core_model.specs.declared.named.Named.{Named}
 use Rattle.node_stages.specs.Caches.{follower_node, follower_refills, leader_node, leader_refills}
 use Rattle.core_nodes.specs.FleetView.{fleet_seen}
-use Rattle.core_nodes.specs.Settling.{AllCatchUp, AllProcessOn, AreCaches, ByNode, CachesGoOn, CatchesUp, GoesInTurn, HaveCaughtUp, ProcessesOn, SeenLogs}
+use Rattle.core_nodes.specs.Settling.{AllCatchUp, AllProcessOn, AreCaches, ByNode, CachesGoOn, CatchesUp, GoesInTurn, HaveCaughtUp, IsConfiguredCache}
+use Rattle.core_nodes.specs.Settling.{ProcessesOn, SeenLogs}
 use Rattle.core_nodes.specs.Settling.{WhereUp, is_last, keeps_pace, seen_logs}
 use Rattle.core_nodes.specs.declared.fleet.Fleet.TheInside.{Inside}
 use Rattle.core_nodes.proofs.AskLemmas.{stores_here}
@@ -45,23 +47,35 @@ named_of : {N : Type 0} (names : List NodeName) (nodes : List (Named N)) (place 
     → slice_get nodes place ≡ Some node → Contains names node.name
 named_of names nodes place node are at = contains_from_in names node.name (subst (IsIn node.name) are (named_in nodes place node at))
 
--- each is a leader or a follower of the configuration, and has marked nothing that its region's store hasn't
-pub leaders_are : (tells : Bool) (s : Settings) (tables : Tables) (f : Fleet) → IsConsistent tells s tables f
+-- each is a leader or a follower of the configuration
+pub leader_named : (s : Settings) (f : Fleet) (place : ℕ) (leader : Named Node) → IsFleetOf s f → slice_get f.leaders place ≡ Some leader
+    → IsConfiguredCache s leader.name
+leader_named s f place leader is at =
+    Contains-append_left (leader_names s) (follower_names s) leader.name (named_of (leader_names s) f.leaders place leader is.leader_names at)
+
+pub follower_named : (s : Settings) (f : Fleet) (place : ℕ) (follower : Named FollowerState) → IsFleetOf s f → slice_get f.followers place ≡ Some follower
+    → IsConfiguredCache s follower.name
+follower_named s f place follower is at =
+    Contains-append_right (leader_names s) (follower_names s) follower.name
+    (named_of (follower_names s) f.followers place follower is.follower_names at)
+
+-- it has marked nothing that its region's store hasn't, and lies behind no cut
+pub leaders_are : (tells : Bool) (s : Settings) (tables : Tables) (f : Fleet) → IsConsistent tells s tables f → WhereTold tells (ArePastCuts tables f)
     → AreCaches leader_node (seen_logs tells s tables (pens_of f.stores)) f.leaders
-leaders_are tells s tables f is place leader at = record {
-  configured =
-      Contains-append_left (leader_names s) (follower_names s) leader.name (named_of (leader_names s) f.leaders place leader is.fleet.leader_names at);
+leaders_are tells s tables f is past place leader at = record {
+  configured = leader_named s f place leader is.fleet at;
   node = is.fleet.leaders place leader.name leader.node at;
   reached = λ told. (is.reached told).leaders place leader.name leader.node at;
+  past = λ told. (past told).leaders place leader.name leader.node at;
 }
 
-pub followers_are : (tells : Bool) (s : Settings) (tables : Tables) (f : Fleet) → IsConsistent tells s tables f
+pub followers_are : (tells : Bool) (s : Settings) (tables : Tables) (f : Fleet) → IsConsistent tells s tables f → WhereTold tells (ArePastCuts tables f)
     → AreCaches follower_node (seen_logs tells s tables (pens_of f.stores)) f.followers
-followers_are tells s tables f is place follower at = record {
-  configured = Contains-append_right (leader_names s) (follower_names s) follower.name
-      (named_of (follower_names s) f.followers place follower is.fleet.follower_names at);
+followers_are tells s tables f is past place follower at = record {
+  configured = follower_named s f place follower is.fleet at;
   node = (is.fleet.followers place follower.name follower.node at).node;
   reached = λ told. (is.reached told).followers place follower.name follower.node at;
+  past = λ told. (past told).followers place follower.name follower.node at;
 }
 
 -- ---- the nodes after

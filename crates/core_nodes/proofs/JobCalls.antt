@@ -1,9 +1,10 @@
 -- What the end of a job and a look for the first one leave of the stores and the tables.
-use Rattle.std.proofs.Common.{◌≡◌, ℕ, ◌<◌, Bool, List, Option, Some, None, Result, Ok, Err, IfOk, IfSome, OnOk, sym, subst}
+use Rattle.std.proofs.Common.{◌≡◌, ℕ, ◌<◌, Bool, List, Option, Some, None, Result, Ok, Err, IfOk, IfSome, OnOk, refl, sym, subst, true}
 use Rattle.std.specs.Prelude.{slice_set}
 use Rattle.core_model.proofs.KeptStores.{kept_stays}
+use Rattle.core_model.proofs.PastCuts.{come_on, come_same}
 use Rattle.core_model.specs.Jobs.{EndsOwed, IsFirstJobOf, IsMergedJob, ShardJob, job_on}
-use Rattle.core_model.specs.Stores.{AreKeptIn, AreStoresOf, master_store}
+use Rattle.core_model.specs.Stores.{AreInOrder, AreKeptIn, AreStoresOf, master_store}
 use Rattle.core_nodes.proofs.JobLemmas.{end_keeps, ends_owed, first_job_of}
 use Rattle.core_nodes.proofs.MasterStores.{IsMasterRead, goes_same, stores_left}
 use Rattle.core_nodes.proofs.StoreLemmas.{OthersStay}
@@ -11,8 +12,10 @@ use Rattle.graph_model.specs.Told.{WhereTold}
 use Rattle.shard_tables.specs.StoreView.{Store}
 use Rattle.shard_tables.specs.Stores.{IsStoreOf}
 use Rattle.shard_tables.specs.declared.refusal.StoreRefusal.{StoreRefusal}
+use Rattle.tao_base.specs.declared.id.StoreName.{StoreName}
+use Rattle.tao_keeper.proofs.Growing.{same_cut, same_logs_grow}
 use Rattle.tao_keeper.specs.Given.{IsGivenJob}
-use Rattle.tao_keeper.specs.Table.{Changes, IsLeastJob, Stays, Tables, after_end}
+use Rattle.tao_keeper.specs.Table.{Changes, IsLeastJob, Stays, Table, Tables, after_end}
 use Rattle.tao_keeper.specs.declared.jobs.Job.{Job}
 use Rattle.topology.specs.Config.{Settings}
 
@@ -37,9 +40,17 @@ module _ (s : Settings) (before after : Tables) (j : ShardJob) (here : j.shard <
   ends_step (Ok t) ends = ends_owed s before after j here is ends
   ends_step (Err e) ends = tt
 
-  ends_kept : {T : Type 0} (r : Result T StoreRefusal) → AreKeptIn s before → TakesOutJob s before after j r → AreKeptIn s after
-  ends_kept (Ok t) kept ends = end_keeps s before after j kept (ends_owed s before after j here is ends)
-  ends_kept (Err e) kept ends = kept_stays s before after ends kept
+  ends_in_order : {T : Type 0} (r : Result T StoreRefusal) → AreInOrder s before → TakesOutJob s before after j r → AreInOrder s after
+  ends_in_order (Ok t) order ends =
+      let at : StoreName = master_store s j.shard in
+      let table : Table = after_end (before at) j.job.position in
+      record {
+        kept = end_keeps s before after j order.kept (ends_owed s before after j here is ends);
+        cuts = come_on s before after (same_logs_grow true before after at table refl (λ told. ends)) (same_cut true before after at table refl (λ told. ends))
+            order.cuts;
+      }
+  ends_in_order (Err e) order ends =
+      record { kept = kept_stays s before after ends order.kept; cuts = come_same s before after ends order.cuts }
 
 -- the stores after the end of a job at its own master's store, which is only read
 module _ (tells : Bool) (s : Settings) (before after : Tables) (xs : List Store) (place : ℕ) (j : ShardJob) (x y : Store)
@@ -51,7 +62,7 @@ module _ (tells : Bool) (s : Settings) (before after : Tables) (xs : List Store)
     stores =
         stores_left tells s before after xs j.shard place x y are is (goes_same x y same) of
         (λ told. subst (OthersStay before after) (sym is.named) (ends_others s before after j r (ends told)))
-        (λ told. ends_kept s before after j here (merged told) r (are.kept told) (ends told));
+        (λ told. ends_in_order s before after j here (merged told) r (record { kept = are.kept told; cuts = are.cuts told }) (ends told));
     step = λ told. ends_step s before after j here (merged told) r (ends told);
   }
 

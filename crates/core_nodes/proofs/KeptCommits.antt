@@ -54,7 +54,7 @@ of_shard log (AssocChangeType id1 atype id2 newtype) room = refl
 module _ (s : Settings) (most : ℕ) (origin : Origin) (write : Write) (old new : Tables) (within : write_shard write < s.shards)
     (kept : AreKeptIn s old) where
   abbrev asked : AskedWrite
-  asked = asked_write (types_of s.schema) most 0 (master_log s old (write_shard write)) origin write
+  asked = asked_write (types_of s.schema) most 0 (old (master_store s (write_shard write))) origin write
 
   module _ (match : InversesMatch (types_of s.schema)) (client : IsTrue (is_client origin)) (changes : ChangesType (types_of s.schema) write)
       (of_entries : AreOfEntries (old (master_store s (write_shard write)))) where

@@ -49,5 +49,6 @@ pub mod StoreLemmas
 pub mod StoresLent
 pub mod StreamLemmas
 pub mod StreamReads
+pub mod TrimLemmas
 pub mod UpLemmas
 pub mod ViewLemmas

@@ -17,7 +17,7 @@ use Rattle.core_model.proofs.FoundStores.{stores_go_on}
 use Rattle.core_model.proofs.Places.{set_same}
 use Rattle.core_model.specs.Pens.{Rise, pens_of, store_in}
 use Rattle.core_model.specs.StoreLaws.{StoreGoesOn}
-use Rattle.core_model.specs.Stores.{AreKeptIn, AreStoresOf, HaveMasterRegions, IsConfiguredStore, master_of, master_store, region_store, store_place}
+use Rattle.core_model.specs.Stores.{AreInOrder, AreStoresOf, HaveMasterRegions, IsConfiguredStore, master_of, master_store, region_store, store_place}
 use Rattle.core_nodes.proofs.StoreLemmas.{OthersStay, is_master, master_follows, master_place, pen_after, read_stands, read_store, stores_changed}
 
 module _ (tells : Bool) (s : Settings) (tables : Tables) (xs : List Store) where
@@ -80,8 +80,8 @@ module _ (tells : Bool) (s : Settings) (old new : Tables) (xs : List Store) (sha
   pub pens_rise : Rise (pens_of xs) (pens_of (slice_set xs place y))
   pens_rise = (stores_go_on xs place x y is.stands goes).rise
 
-  pub stores_left : IsStoreOf tells new y → WhereTold tells (OthersStay old new x.name) → WhereTold tells (AreKeptIn s new)
+  pub stores_left : IsStoreOf tells new y → WhereTold tells (OthersStay old new x.name) → WhereTold tells (AreInOrder s new)
       → AreStoresOf tells s new (slice_set xs place y)
-  stores_left keeper others kept =
-      stores_changed tells s old new xs place x y are is.stands goes keeper others kept
+  stores_left keeper others order =
+      stores_changed tells s old new xs place x y are is.stands goes keeper others order
       (master_follows tells s old new xs place x y are is.stands goes shard is.named is.configured)

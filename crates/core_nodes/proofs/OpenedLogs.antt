@@ -1,38 +1,35 @@
 -- Logs stay as they are where stores are opened.
-use Rattle.std.proofs.Common.{◌≡◌, ◌⊎◌, ℕ, ◌+◌, Bool, List, length, take, refl, sym, ap, ◌∙◌, subst, inl, inr, arith}
+use Rattle.std.proofs.Common.{◌≡◌, ◌⊎◌, ℕ, ◌+◌, Bool, true, List, length, take, refl, sym, ap, ◌∙◌, subst, inl, inr, arith}
 use Rattle.std.proofs.lemmas.List.{take_all}
 use Rattle.graph_model.specs.Told.{WhereTold}
 use Rattle.tao_base.specs.declared.entry.Entry.{Entry}
 use Rattle.tao_base.specs.declared.id.StoreName.{StoreName}
-use Rattle.tao_keeper.specs.Growing.{LogsGrow}
+use Rattle.tao_keeper.specs.Growing.{CutsStay, LogsGrow}
 use Rattle.tao_keeper.specs.KeeperState.{IsLater, KeeperState}
 use Rattle.tao_keeper.specs.Table.{Stays, Table, Tables, after_open}
 use Rattle.topology.specs.Config.{Settings}
 use Rattle.replies.specs.declared.opening.OpenRefusal.{OpenRefusal}
 use Rattle.replies.specs.declared.opening.OpenRefusal.TheVariants as refusal
 use Rattle.core_model.proofs.KeptStores.{KeepLogsAndJobs, kept_same}
-use Rattle.core_model.specs.Stores.{AreKeptIn, master_log, master_store, store_count, store_place}
+use Rattle.core_model.proofs.PastCuts.{come_on}
+use Rattle.core_model.specs.Stores.{AreInOrder, master_log, master_store, store_count, store_place}
 use Rattle.counts.proofs.Rises.{Rose-earlier}
 use Rattle.region_stream.specs.Agreeing.{DiffersFirst}
 use Rattle.shard_log.specs.View.{Begins}
 use Rattle.core_nodes.specs.Opening.{AreOpened, DisagreesAt, IsFirst, IsOpened, IsOpenedInPart, IsUnmade, MayOpen, RefusesMaking, RefusesOpening}
 use Rattle.core_nodes.proofs.OpenLemmas.{first_or_other, opened_kept, opened_stays}
 
--- what opens writes lines alone
+-- what opens writes lines alone: any other field of a table stays
+field_stays : {X : Type 0} (s : Settings) (line : List ℕ) (count : ℕ) (old new : Tables) → AreOpened s line count old new → (f : Table → X)
+    → ((t : Table) → f (after_open t line) ≡ f t) → (at : StoreName) → IsFirst s count at ⊎ (IsFirst s count at → ⊥) → f (new at) ≡ f (old at)
+field_stays s line count old new opened f same at (inl first) = ap f (opened.stores at first) ∙ same (old at)
+field_stays s line count old new opened f same at (inr none) = ap f (opened.others at none)
+
 pub opened_keep : (s : Settings) (line : List ℕ) (count : ℕ) (old new : Tables) → AreOpened s line count old new → KeepLogsAndJobs old new
 opened_keep s line count old new opened = record {
-  logs = λ at. field_stays (λ t. t.log) (λ t. refl) at (first_or_other s count at);
-  jobs = λ at. field_stays (λ t. t.jobs) (λ t. refl) at (first_or_other s count at);
+  logs = λ at. field_stays s line count old new opened (λ t. t.log) (λ t. refl) at (first_or_other s count at);
+  jobs = λ at. field_stays s line count old new opened (λ t. t.jobs) (λ t. refl) at (first_or_other s count at);
 }
-  where
-    field_stays : {X : Type 0} (f : Table → X) → ((t : Table) → f (after_open t line) ≡ f t) → (at : StoreName)
-        → IsFirst s count at ⊎ (IsFirst s count at → ⊥) → f (new at) ≡ f (old at)
-    field_stays f same at (inl first) = ap f (opened.stores at first) ∙ same (old at)
-    field_stays f same at (inr none) = ap f (opened.others at none)
-
--- so stores that may be opened are kept
-pub kept_opened : (s : Settings) (line : List ℕ) (old new : Tables) → MayOpen s line old → IsOpened s line old new → AreKeptIn s new
-kept_opened s line old new may is = kept_same s old new (opened_keep s line (store_count s) old new is.opened) (may is.ready)
 
 -- and logs go on
 pub opened_grow : (tells : Bool) (s : Settings) (line : List ℕ) (count : ℕ) (old new : Tables) → WhereTold tells (AreOpened s line count old new)
@@ -44,7 +41,19 @@ opened_grow tells s line count old new opened = record {
     begins_same : (log same : List Entry) → same ≡ log → log ≡ take (length log) same
     begins_same log same is = subst (λ l. log ≡ take (length log) l) (sym is) (sym (take_all (length log) log (omega arith)))
 
--- so they do where the opening stopped
+-- so stores that may be opened are in order
+pub opened_in_order : (s : Settings) (line : List ℕ) (old new : Tables) → MayOpen s line old → IsOpened s line old new → AreInOrder s new
+opened_in_order s line old new may is =
+    let opened = is.opened in
+    let cuts : CutsStay true old new = record {
+      cuts = λ told at. field_stays s line (store_count s) old new opened (λ t. t.cut) (λ t. refl) at (first_or_other s (store_count s) at);
+    } in
+    record {
+      kept = kept_same s old new (opened_keep s line (store_count s) old new opened) (may is.ready).kept;
+      cuts = come_on s old new (opened_grow true s line (store_count s) old new (λ told. opened)) cuts (may is.ready).cuts;
+    }
+
+-- logs go on also where the opening stopped
 pub refused_grow : (tells : Bool) (s : Settings) (line : List ℕ) (old new : KeeperState) (refused : OpenRefusal) → RefusesOpening tells s line old new refused
     → LogsGrow tells old.told new.told
 refused_grow tells s line old new refusal.KeeperFault h =

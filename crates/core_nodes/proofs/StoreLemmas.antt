@@ -33,7 +33,7 @@ use Rattle.core_model.proofs.KeptStores.{sound_logs}
 use Rattle.core_model.proofs.Places.{one_some, set_same}
 use Rattle.core_model.specs.Pens.{IsSeen, master_in, pens_of, store_in}
 use Rattle.core_model.specs.StoreLaws.{IsFoundAt, StoreGoesOn}
-use Rattle.core_model.specs.Stores.{AreKeptIn, AreStoresOf, HaveSeen, IsConfiguredStore, IsStoreAt, master_of, master_store, region_store}
+use Rattle.core_model.specs.Stores.{AreInOrder, AreStoresOf, HaveSeen, IsConfiguredStore, IsStoreAt, master_of, master_store, region_store}
 use Rattle.core_model.specs.Stores.{store_count, store_place}
 
 -- ---- a store that is read
@@ -145,13 +145,14 @@ goes_with x y e is grows = record {
 
 module _ (tells : Bool) (s : Settings) (old new : Tables) (xs : List Store) (place : ℕ) (x y : Store) (are : AreStoresOf tells s old xs)
     (stands : slice_get xs place ≡ Some x) (goes : StoreGoesOn x y) where
-  -- the stores after a call of one of them, which may have changed its table and left them kept
-  pub stores_changed : IsStoreOf tells new y → WhereTold tells (OthersStay old new x.name) → WhereTold tells (AreKeptIn s new)
+  -- the stores after a call of one of them, which may have changed its table and left them in order
+  pub stores_changed : IsStoreOf tells new y → WhereTold tells (OthersStay old new x.name) → WhereTold tells (AreInOrder s new)
       → IsSeen (pens_of (slice_set xs place y)) y.name.shard y.view → AreStoresOf tells s new (slice_set xs place y)
-  stores_changed keeper others kept follow =
+  stores_changed keeper others order follow =
       let on = stores_go_on xs place x y stands goes in record {
         configured = on.are s (store_count s) are.configured;
-        kept = kept;
+        kept = λ told. (order told).kept;
+        cuts = λ told. (order told).cuts;
         seen = on.seen tells old new
             (λ told other store at differ. others told store.name
             (λ same. differ (by_place s (store_count s) xs other place store x are.configured at stands same)))

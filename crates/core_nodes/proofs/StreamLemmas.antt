@@ -35,7 +35,7 @@ use Rattle.core_model.specs.Pens.{IsSeen, pens_of}
 use Rattle.core_model.specs.StoreLaws.{StoreGoesOn}
 use Rattle.core_model.specs.Stores.{AreKeptIn, AreStoresOf, master_log, master_of, master_store, role_in}
 use Rattle.core_model.specs.Writes.{IsSeenEntry}
-use Rattle.core_nodes.proofs.GrowingLemmas.{gains_stores}
+use Rattle.core_nodes.proofs.GrowingLemmas.{gains_stores, in_order_on}
 use Rattle.core_nodes.proofs.KnownStores.{known_store}
 use Rattle.core_nodes.proofs.StoreLemmas.{IsReadStore, OthersStay, others_stay, stores_changed}
 use Rattle.core_nodes.proofs.ViewLemmas.{after_stores, stores_after}
@@ -181,17 +181,18 @@ module _ (tells : Bool) (s : Settings) (old new : KeeperState) (xs : List Store)
         })
         (kept told)
 
+    grown_after : StoresGrow tells s old.told new.told
+    grown_after = gains_stores tells s old new at (entry_applied entry r) None slave.here gains_at
+
     stores_taken : AreStoresOf tells s old.told xs → IsSeen (pens_of xs) at.shard note → AreStoresOf tells s new.told (slice_set xs place y)
     stores_taken are seen =
         let shard_is : y.name.shard ≡ at.shard = ap (λ (n : StoreName). n.shard) (goes.name_is ∙ is.found.name_is) in
         let follow : IsSeen (pens_of xs) at.shard y.view = takes.follows (pens_of xs at.shard) is.follow seen in
         stores_changed tells s old.told new.told xs place x y are stands goes takes.keeper
-        (λ told. others_stay old.told new.told x.name (entry_applied entry r) None (takes.gains told)) (kept_after are.kept)
+        (λ told. others_stay old.told new.told x.name (entry_applied entry r) None (takes.gains told))
+        (in_order_on tells s old.told new.told are.cuts (kept_after are.kept) grown_after)
         (subst (λ k. IsSeen (pens_of (slice_set xs place y)) k y.view) (sym shard_is)
         (subst (λ (pens : ℕ → View). Grows y.view (pens at.shard)) (sym pens_same) follow))
-
-    grown_after : StoresGrow tells s old.told new.told
-    grown_after = gains_stores tells s old new at (entry_applied entry r) None slave.here gains_at
 
     -- the store stays as it was, unless it took the entry
     rests : UnlessApplied (streamed_as r) (slice_set xs place y ≡ xs)

@@ -5,7 +5,6 @@ use Rattle.node_name.specs.declared.NodeName.{NodeName}
 use Rattle.node_name.specs.declared.NodeName.TheVariants.{Store as StoreName_, Follower, Leader}
 use Rattle.served_shards.specs.Begun.{AreNotesOf, AreReached}
 use Rattle.shard_log.specs.View.{View}
-use Rattle.shard_tables.specs.StoreView.{Store}
 use Rattle.tao_keeper.specs.Table.{Stays, Tables}
 use Rattle.topology.specs.Config.{Settings}
 use Rattle.core_model.specs.Consistent.{GoesOn, HaveReached, IsConsistent}
@@ -15,14 +14,12 @@ use Rattle.core_model.specs.Fleet.{Fleet, region_of, served_by}
 use Rattle.core_model.specs.Pens.{Pens, pens_of}
 use Rattle.core_model.specs.Stores.{AreStoresOf}
 use Rattle.core_nodes.specs.Emptying.{BeginFor, CacheIs, EmptiesThere, MayEmpty}
-use Rattle.core_nodes.specs.declared.fleet.Fleet.TheInside.{Inside}
-use Rattle.core_nodes.proofs.AskLemmas.{still_consistent, stores_here}
-use Rattle.core_nodes.proofs.FleetLemmas.{goes_self, reach_stays}
+use Rattle.core_nodes.proofs.AskLemmas.{stores_here}
+use Rattle.core_nodes.proofs.FleetLemmas.{reach_stays}
 use Rattle.core_nodes.proofs.RestartLemmas.{cache_logs, cache_may, restart_reached}
-use Rattle.core_nodes.proofs.ViewLemmas.{LendsStores, after_stores, stores_after}
 
 -- no store changes
-empties_stores : (name : NodeName) (pens : Pens) (at : Anew) (old new : Fleet) → EmptiesCache name pens at old new → new.stores ≡ old.stores
+pub empties_stores : (name : NodeName) (pens : Pens) (at : Anew) (old new : Fleet) → EmptiesCache name pens at old new → new.stores ≡ old.stores
 empties_stores (StoreName_ store) pens at old new does = absurd does
 empties_stores (Leader region index) pens at old new does = ap (λ (f : Fleet). f.stores) does.1
 empties_stores (Follower region tier index) pens at old new does = ap (λ (f : Fleet). f.stores) does.1
@@ -32,42 +29,31 @@ pub record CameUp (tells : Bool) (s : Settings) (before after : Tables) (name : 
   pub consistent : IsConsistent tells s after new
   pub goes : GoesOn old new
 
-module _ (tells : Bool) (s : Settings) (before after : Tables) (name : NodeName) (inside : Inside) (old : Fleet) (lent same : List Store)
-    (lends : LendsStores inside old lent same) (is : IsConsistent tells s before old) (stays : WhereTold tells (Stays before after)) where
-  abbrev Mid : Fleet
-  Mid = after_stores inside same
-
+-- the nodes before, as they are once it is known what the node begins with
+module _ (tells : Bool) (s : Settings) (before after : Tables) (name : NodeName) (old mid : Fleet) (same : mid ≡ old) (is : IsConsistent tells s before old)
+    (cache : IsCacheOf s name) (lows : List ℕ) (notes : List View) where
   abbrev Over_ : RegionTables
   Over_ = region_tables tells before (region_of name)
 
-  -- it couldn't
-  pub stays_down : IsConsistent tells s after Mid × GoesOn old Mid
-  stays_down =
-      let back = stores_after inside old lent same lends in
-      (subst (IsConsistent tells s after) (sym back) (still_consistent tells s before after old is stays), subst (GoesOn old) (sym back) (goes_self old))
-
-  module _ (cache : IsCacheOf s name) (lows : List ℕ) (notes : List View) (restart : BeginFor (pens_of lent) Over_ (served_by s name) lows notes) where
-    restart_old : BeginFor (pens_of old.stores) Over_ (served_by s name) lows notes
-    restart_old = subst (λ xs. BeginFor (pens_of xs) Over_ (served_by s name) lows notes) lends.own restart
-
-    pub up_logs : CacheIs name (λ n. AreNotesOf n.served notes) Mid
-    up_logs = subst (CacheIs name (λ n. AreNotesOf n.served notes)) (sym (stores_after inside old lent same lends))
-        (cache_logs tells s before old is.stores is.fleet is.reached name lows notes cache restart_old)
+  module _ (restart : BeginFor (pens_of old.stores) Over_ (served_by s name) lows notes) where
+    pub up_logs : CacheIs name (λ n. AreNotesOf n.served notes) mid
+    up_logs = subst (CacheIs name (λ n. AreNotesOf n.served notes)) (sym same)
+        (cache_logs tells s before old is.stores is.fleet is.reached name lows notes cache restart)
 
     pub up_reached : (given : List ℕ) → given ≡ lows → AreReached given notes
     up_reached given same_lows =
-        subst (λ ls. AreReached ls notes) (sym same_lows) (restart_reached (pens_of old.stores) Over_ (served_by s name) lows notes restart_old)
+        subst (λ ls. AreReached ls notes) (sym same_lows) (restart_reached (pens_of old.stores) Over_ (served_by s name) lows notes restart)
 
-    pub comes_up : (given : List ℕ) (new : Fleet) → given ≡ lows
-        → ((at : Anew) → CacheIs name (MayEmpty (pens_of Mid.stores) at given notes) Mid → EmptiesThere s name at Mid new)
+    pub comes_up : (given : List ℕ) (new : Fleet) → given ≡ lows → WhereTold tells (Stays before after)
+        → ((at : Anew) → CacheIs name (MayEmpty (pens_of mid.stores) at given notes) mid → EmptiesThere s name at mid new)
         → CameUp tells s before after name old new
-    comes_up given new same_lows gives =
+    comes_up given new same_lows stays gives =
         let at : Anew = at_stores Over_ in
         let P : Fleet → Type 0 = λ m. CacheIs name (MayEmpty (pens_of m.stores) at given notes) m → EmptiesThere s name at m new in
-        let there : P old = subst P (stores_after inside old lent same lends) (gives at) in
+        let there : P old = subst P same (gives at) in
         let may : CacheIs name (MayEmpty (pens_of old.stores) at given notes) old =
         subst (λ ls. CacheIs name (MayEmpty (pens_of old.stores) at ls notes) old) (sym same_lows)
-        (cache_may tells s before old is.stores is.fleet is.reached name lows notes cache restart_old) in
+        (cache_may tells s before old is.stores is.fleet is.reached name lows notes cache restart) in
         let done = there may in
         let stores_are = empties_stores name (pens_of old.stores) at old new done.empties in
         let reached : WhereTold tells (HaveReached before new) =

@@ -14,6 +14,7 @@ use Rattle.core_model.specs.Fleet.{Fleet, region_of, served_by}
 use Rattle.core_model.specs.Pens.{IsSeen, Pens, pens_of}
 use Rattle.core_model.specs.Stores.{store_length}
 use Rattle.core_nodes.specs.Stages.{NodeIs}
+use Rattle.node_stages.specs.declared.standing.Stand.{Stand}
 
 -- the node may be emptied, and begin at these marks with these notes
 pub record MayEmpty (pens : Pens) (at : Anew) (lows : List ℕ) (notes : List View) (node : Node) : Type 0 where
@@ -52,6 +53,10 @@ abbrev pub BeginFor : Pens → RegionTables → List ℕ → List ℕ → List V
 BeginFor pens at [] [] [] = ⊤
 BeginFor pens at (shard ∷ shards) (low ∷ lows) (note ∷ notes) = BeginsFor pens at shard low note × BeginFor pens at shards lows notes
 BeginFor pens at shards lows notes = ⊥
+
+-- a node of that name begins so at its region's stores: of each shard that it serves it has that store's length, and a note
+abbrev pub IsRestart : Settings → Pens → RegionTables → NodeName → Stand → Type 0
+IsRestart s pens at name stand = BeginFor pens at (served_by s name) stand.lows.items stand.notes.items
 
 -- ---- where it stands, as it goes down
 

@@ -11,3 +11,4 @@ pub mod Settling
 pub mod Shown
 pub mod Stages
 pub mod Streams
+pub mod Trimming

@@ -17,7 +17,7 @@ use Rattle.topology.specs.Config.{Settings}
 use Rattle.region_stream.specs.Agreeing.{DiffersFirst}
 use Rattle.region_stream.specs.declared.opening.ShardRefusal.{ShardRefusal}
 use Rattle.region_stream.specs.declared.opening.ShardRefusal.TheVariants as within
-use Rattle.core_model.specs.Stores.{AreKeptIn, IsConfiguredStore, IsStoreAt, master_log, master_of, master_store, region_store, store_count, store_place}
+use Rattle.core_model.specs.Stores.{AreInOrder, IsConfiguredStore, IsStoreAt, master_log, master_of, master_store, region_store, store_count, store_place}
 use Rattle.replies.specs.declared.opening.OpenRefusal.{OpenRefusal}
 use Rattle.replies.specs.declared.opening.OpenRefusal.TheVariants as refusal
 
@@ -162,6 +162,6 @@ IsUnmade before now refusal.OutOfMemory = ⊤
 
 -- ----
 
--- where every store takes the line, the logs of the masters are sound with the types of the configuration, and covered
+-- where every store takes the line, the logs of the masters are sound with the types of the configuration, and covered, and each store has come to the cuts
 abbrev pub MayOpen : Settings → List ℕ → Tables → Type 0
-MayOpen s line tables = AreReady s line (store_count s) tables → AreKeptIn s tables
+MayOpen s line tables = AreReady s line (store_count s) tables → AreInOrder s tables

@@ -32,6 +32,7 @@ use Rattle.topology.specs.Config.{Settings}
 use Rattle.topology.specs.States.{NodeStates, is_up}
 use Rattle.core_model.specs.Asks.{AsksGoOn}
 use Rattle.core_model.specs.Consistent.{HasReached, IsNodeOf, MarksGoOn}
+use Rattle.core_model.specs.Cuts.{IsPastCuts}
 use Rattle.core_model.specs.Emptied.{IsAtStore, RegionTables, region_tables}
 use Rattle.core_model.specs.Fleet.{EachNode, Fleet, follower_names, leader_names, node_names, region_of, regions_of, serves_in_turn}
 use Rattle.core_model.specs.Pens.{IsSeen, Pens}
@@ -155,6 +156,7 @@ StopsAs shard refused.OutOfMemory stop = stop ≡ OutOfMemory
 StopsAs shard (refused.LogFull length) stop = ⊥
 StopsAs shard (refused.ShardFull serial) stop = ⊥
 StopsAs shard (refused.StampFull number) stop = ⊥
+StopsAs shard (refused.TooOld cut position) stop = ⊥
 StopsAs shard (refused.SeqReused position) stop = ⊥
 
 -- why a core isn't opened, where this stops the settle of its nodes
@@ -200,6 +202,7 @@ pub record MayCatchUp (logs : SeenLogs) (name : NodeName) (n : Node) : Type 0 wh
   pub configured : IsConfiguredCache logs.settings name
   pub node : IsNodeOf logs.settings logs.pens name n
   pub reached : WhereTold logs.tells (HasReached logs.tables (region_of name) n)
+  pub past : WhereTold logs.tells (IsPastCuts logs.tables (region_of name) n)
 
 -- the node is still the one of that name, its asks go on, and it has processed some more
 pub record NodeGoesOn (logs : SeenLogs) (name : NodeName) (old new : Node) : Type 0 where

@@ -1,5 +1,5 @@
 //! A leader or a follower processes the rest of the logs that it serves.
-ghost use Rattle.std.specs.Prelude.{◌≡◌, ◌<◌, ◌∷◌, [], IfErr, OnErr, OnOk, Some, length, true};
+ghost use Rattle.std.specs.Prelude.{◌≡◌, ◌≤◌, ◌<◌, ◌∷◌, [], IfErr, OnErr, OnOk, Some, length, true};
 ghost use Rattle.core_model.specs.Fleet.{region_of, regions_of, serves_in_turn};
 ghost use Rattle.core_model.specs.Pens.{pens_of};
 ghost use Rattle.core_model.specs.Stores.{AreStoresOf, IsConfiguredStore};
@@ -13,7 +13,7 @@ ghost use Rattle.core_nodes.specs.Settling.{StopsReads, is_turn, lies_behind, se
 ghost use Rattle.graph_model.specs.Told.{WhereTold};
 ghost use Rattle.node_stages.specs.Caches.{follower_node, follower_refills, leader_node, leader_refills};
 ghost use Rattle.node_stages.specs.Catching.{ProcessesRest, TouchShard};
-ghost use Rattle.served_shards.specs.Served.{log_at};
+ghost use Rattle.served_shards.specs.Served.{log_at, low_at};
 ghost use Rattle.shard_tables.specs.Stores.{IsStoreOf};
 ghost use Rattle.tao_keeper.specs.KeeperState.{IsLater, KeepsTables};
 ghost use Rattle.tao_link.specs.Shown.{after_carry};
@@ -89,6 +89,7 @@ fn process_rest<C: Cache, K: Keeper>(
     requires keeper { IsStoreOf K.TELLS (K.state keepers.old).told store.old }
     requires all { WhereTold K.TELLS (until ≡ length ((K.state keepers.old).told store.old.name).log) }
     requires here { WhereTold K.TELLS (TouchShard store.old.name.shard ((K.state keepers.old).told store.old.name).log) }
+    requires live { WhereTold K.TELLS (((K.state keepers.old).told store.old.name).cut ≤ low_at store.old.name.shard (C.node cache.old).served) }
     ensures does { OnOk result (ProcessesRest C.node C.refills K.TELLS ((K.state keepers.old).told store.old.name).log store.old cache.old cache.new) }
     ensures err { OnErr result (cache.new ≡ cache.old) }
     ensures same { store.new ≡ store.old }
@@ -104,7 +105,7 @@ fn process_rest<C: Cache, K: Keeper>(
 }
 
 /// Whether the node serves the shard, and has not processed its log up to this length.
-fn lies_behind(config: &Config, name: NodeName, shard: u16, low: u64, until: u64) -> bool
+pub(crate) fn lies_behind(config: &Config, name: NodeName, shard: u16, low: u64, until: u64) -> bool
     ensures { result ≡ lies_behind config.now name shard low until }
 {
     serves_in_turn(config, name, shard) && low < until

@@ -6,7 +6,7 @@ ghost use Rattle.core_model.specs.Evictions.{IsCacheOf};
 ghost use Rattle.core_model.specs.Fleet.{ChangesNode, HasNode, region_of, served_by};
 ghost use Rattle.core_model.specs.Pens.{pens_of};
 ghost use Rattle.core_model.specs.Stores.{AreStoresOf, IsConfiguredStore};
-ghost use Rattle.core_nodes.specs.Emptying.{BeginFor, BeginsFor, CacheIs, EmptiesThere, MayEmpty};
+ghost use Rattle.core_nodes.specs.Emptying.{BeginFor, BeginsFor, CacheIs, EmptiesThere, IsRestart, MayEmpty};
 ghost use Rattle.core_nodes.specs.Stages.{NodeIs};
 ghost use Rattle.node_stages.specs.Caches.{IsEmptiedAs};
 ghost use Rattle.node_stages.specs.Stages.{CacheDoes};
@@ -119,7 +119,7 @@ fn empty_at<C: Cache>(caches: &mut [Named<C>], name: NodeName, lows: &[u64], not
 
 impl Fleet {
     /// The leader or follower loses all that it holds, and begins anew at these marks, with these notes of its logs. Takes no memory.
-    pub(crate) fn empty(&mut self, config: &Config, node: NodeName, lows: &[u64], notes: Vec<Note>)
+    pub fn empty(&mut self, config: &Config, node: NodeName, lows: &[u64], notes: Vec<Note>)
         requires fleet { IsFleetOf config.now self.old }
         requires node { IsCacheOf config.now node }
         requires logs { CacheIs node (λ n. AreNotesOf n.served notes.items) self.old }
@@ -132,6 +132,30 @@ impl Fleet {
             NodeName::Follower { .. } => empty_at(&mut self.followers, node, lows, notes),
             NodeName::Store(_) => unreachable!(),
         }
+    }
+
+    /// What the leader or follower is to begin with where it begins anew at the lengths of its region's stores. Nothing changes.
+    ///
+    /// `KeeperFault` comes only where the keepers' count of faults rose, and `OutOfMemory` where there was no memory. One call of the keeper
+    /// for each shard that the node serves.
+    pub fn restart<K: Keeper>(
+        &mut self,
+        alloc: Global,
+        config: &Config,
+        keepers: &mut K,
+        node: NodeName,
+    ) -> Result<Stand, StoreRefusal>
+        requires consistent { IsConsistent K.TELLS config.now (K.state keepers.old).told self.old }
+        requires region { region_of node < length config.now.regions }
+        ensures restart { IfOk result (λ stand. IsRestart config.now (pens_of self.old.stores)
+            (region_tables K.TELLS (K.state keepers.old).told (region_of node)) node stand) }
+        ensures same { self.new ≡ self.old }
+        ensures consistent { IsConsistent K.TELLS config.now (K.state keepers.new).told self.new }
+        ensures refused { IfErr result IsOfReads }
+        ensures tables { KeepsTables K.TELLS (K.state keepers.old) (K.state keepers.new) }
+        ensures calls { CallsKeeper StoreRefusal.KeeperFault (K.state keepers.old) (K.state keepers.new) result }
+    {
+        restart_for(alloc, config, &mut self.stores, keepers, node)
     }
 
     /// The leader or follower comes up: it holds nothing, and begins anew at the lengths of its region's stores. Where it can't, nothing
@@ -158,7 +182,7 @@ impl Fleet {
         ensures tables { KeepsTables K.TELLS (K.state keepers.old) (K.state keepers.new) }
         ensures calls { CallsKeeper StoreRefusal.KeeperFault (K.state keepers.old) (K.state keepers.new) result }
     {
-        let Stand { lows, notes } = restart_for(alloc, config, &mut self.stores, keepers, node)?;
+        let Stand { lows, notes } = self.restart(alloc, config, keepers, node)?;
         self.empty(config, node, &lows, notes);
         Ok(())
     }

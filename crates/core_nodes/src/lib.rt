@@ -20,11 +20,13 @@
 //! They take one carry for each shard at which a node lies behind, in the order of the nodes, and no other. What stops them is named by the first
 //! that wasn't met: what comes before was met, and nothing behind it has changed (`MeetsDues`). Of a stream into a
 //! region's store it is found which entry comes next, and a slave's store takes an entry of its shard's log exactly where that
-//! comes next, which changes no other table and no other node.
+//! comes next, which changes no other table and no other node. A store's log is cut where each store of its shard has come to, and of nodes it is
+//! told which lie behind.
 //!
 //! The contracts that say so: `Fleet::open`, `look`, `ask_at_once`, `ask`, `read_store`, `notes`, `note`, `renew`,
 //! `keep`, `end_ask`, `commit`, `merge`, `merge_far`, `end_job`, `first_job`, `apply`, `evict`, `deliver`,
-//! `next_refill`, `lengths`, `shard_lengths`, `catch_up`, `go_down`, `come_up`, `next_entry`, `take_streamed`, `relay`, `item`, `mark`; the
+//! `next_refill`, `lengths`, `shard_lengths`, `catch_up`, `go_down`, `come_up`, `next_entry`, `take_streamed`, `relay`, `item`, `mark`,
+//! `restart`, `least_mark`, `names_behind`, `cut_log`; the
 //! law `nodes_catch_up`.
 #![tactic(auto)]
 
@@ -46,6 +48,7 @@ mod settling;
 mod shown;
 mod stores;
 mod streams;
+mod trimming;
 mod writes;
 
 pub use catching::Ends;

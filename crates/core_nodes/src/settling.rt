@@ -2,6 +2,7 @@
 ghost use Rattle.std.specs.Prelude.{◌≡◌, Bool, IfErr, IfOk, OnOk, map};
 ghost use Rattle.std.specs.List.{range_with_len};
 ghost use Rattle.core_model.specs.Consistent.{GoesOn, IsConsistent};
+ghost use Rattle.core_model.specs.Cuts.{ArePastCuts};
 ghost use Rattle.core_model.specs.Stores.{master_store, store_place};
 ghost use Rattle.core_nodes.specs.Beginning.{AreLengths, length_at};
 ghost use Rattle.core_nodes.specs.Dues.{LeavesFleet, MeetsDues, dues_of_fleet, log_ends};
@@ -89,6 +90,7 @@ impl Fleet {
     ) -> Result<(), SettleStop>
         requires consistent { IsConsistent K.TELLS ends.now.config.now (K.state keepers.old).told self.old }
         requires lengths { AreLengths K.TELLS ends.now.config.now (K.state keepers.old).told ends.now.lengths.now }
+        requires past { WhereTold K.TELLS (ArePastCuts (K.state keepers.old).told self.old) }
         ensures caught { WhereTold K.TELLS (OnOk result
             (AllCatchUp ends.now.config.now ends.now.topology.now (K.state keepers.new).told self.old self.new)) }
         ensures on { AllProcessOn K.TELLS ends.now.config.now ends.now.topology.now (K.state keepers.new).told self.old self.new }

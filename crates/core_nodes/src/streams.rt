@@ -3,17 +3,17 @@ ghost use Rattle.std.specs.Prelude.{◌≡◌, ◌≤◌, ◌<◌, ◌+◌, IfEr
 ghost use Rattle.core_model.specs.Consistent.{GoesOn, IsConsistent};
 ghost use Rattle.core_model.specs.Growing.{StoresGrow};
 ghost use Rattle.core_model.specs.Pens.{pens_of};
-ghost use Rattle.core_model.specs.Stores.{AreStoresOf, IsConfiguredStore, master_log};
+ghost use Rattle.core_model.specs.Stores.{AreStoresOf, IsConfiguredStore, master_store};
 ghost use Rattle.core_model.specs.Writes.{IsSeenEntry};
 ghost use Rattle.core_nodes.specs.Opening.{IsSlaveStore};
 ghost use Rattle.core_nodes.specs.Streams.{FindsNext, IsNothingAt, IsOfAsked, StreamsTo, UnlessApplied, entry_found, position_found, streamed_as};
-ghost use Rattle.graph_model.specs.Log.{entry_at};
 ghost use Rattle.graph_model.specs.Told.{WhereTold};
 ghost use Rattle.shard_tables.specs.Refusals.{IsOfReads};
 ghost use Rattle.shard_tables.specs.Written.{LiesOn, StandsIn};
 ghost use Rattle.tao_keeper.specs.Given.{HaveSmallStamps, IsGivenEntry};
 ghost use Rattle.tao_keeper.specs.Growing.{LogsGrow};
 ghost use Rattle.tao_keeper.specs.KeeperState.{CallsKeeper, KeepsTables};
+ghost use Rattle.tao_keeper.specs.Table.{live_entry};
 
 use crate::fleet::Fleet;
 use crate::stores::master_store;
@@ -31,6 +31,8 @@ use topology::Config;
 pub enum NextEntry {
     /// The entry that is to be carried, and the position that the store takes next.
     Found { entry: Entry, next: u64 },
+    /// The entry at the position is an old one, which the store has taken: it takes this position next.
+    Old { next: u64 },
     /// The store has all of its shard's log: it takes this position next.
     Nothing { next: u64 },
     /// The shard's log, of that length, has no entry at the position.
@@ -38,7 +40,7 @@ pub enum NextEntry {
 }
 
 /// The length of a store's log. One call of the keeper.
-fn stored_length<K: Keeper>(
+pub(crate) fn stored_length<K: Keeper>(
     stores: &mut [StoreNode],
     keepers: &mut K,
     config: &Config,
@@ -58,7 +60,7 @@ fn stored_length<K: Keeper>(
     store.length(keepers)
 }
 
-/// The entry at a position of a shard's log. One call of the keeper.
+/// The live entry at a position of a shard's log. One call of the keeper.
 fn stored_entry<K: Keeper>(
     stores: &mut [StoreNode],
     keepers: &mut K,
@@ -68,7 +70,7 @@ fn stored_entry<K: Keeper>(
 ) -> Result<Option<Entry>, StoreRefusal>
     requires stores { AreStoresOf K.TELLS config.now (K.state keepers.old).told stores.old }
     requires here { shard < config.now.shards }
-    ensures entry { WhereTold K.TELLS (IfOk result (λ found. found ≡ entry_at (master_log config.now (K.state keepers.old).told shard) position)) }
+    ensures entry { WhereTold K.TELLS (IfOk result (λ found. found ≡ live_entry ((K.state keepers.old).told (master_store config.now shard)) position)) }
     ensures given { IfOk result (λ found. IfSome found IsGivenEntry) }
     ensures same { stores.new ≡ stores.old }
     ensures refused { IfErr result IsOfReads }
@@ -81,7 +83,7 @@ fn stored_entry<K: Keeper>(
     store.entry(keepers, position)
 }
 
-/// What there is where a shard's log has no entry at the position that is asked for, or, where none is asked for, at the one that comes next.
+/// What there is where a shard's log has no live entry at the position that is asked for, or, where none is asked for, at the one that comes next.
 fn nothing_at<K: Keeper>(
     stores: &mut [StoreNode],
     keepers: &mut K,
@@ -107,6 +109,9 @@ fn nothing_at<K: Keeper>(
     };
     masters_are_regions(config);
     let length = stored_length(stores, keepers, config, master_store(config, shard))?;
+    if position <= length {
+        return Ok(NextEntry::Old { next });
+    }
     Ok(NextEntry::Past { length, position })
 }
 
@@ -129,6 +134,7 @@ fn next_at<K: Keeper>(
     ensures tables { KeepsTables K.TELLS (K.state keepers.old) (K.state keepers.new) }
     ensures calls { CallsKeeper StoreRefusal.KeeperFault (K.state keepers.old) (K.state keepers.new) result }
 {
+    masters_are_regions(config);
     let next = stored_length(stores, keepers, config, at)? + 1;
     let asked = position.unwrap_or(next);
     let found = stored_entry(stores, keepers, config, at.shard, asked)?;
@@ -177,8 +183,8 @@ fn take_at<K: Keeper>(
 }
 
 impl Fleet {
-    /// What a stream into a region's store finds: the entry of the shard's log at the position that is given, or else the one that the store takes
-    /// next. Nothing is carried so far, and no node changes.
+    /// What a stream into a region's store finds: the live entry of the shard's log at the position that is given, or else the one that the store
+    /// takes next. Nothing is carried so far, and no node changes.
     ///
     /// `KeeperFault` comes only where the keepers' count of faults rose, and `OutOfMemory` where there was no memory. Two calls of the keeper, and a
     /// third where no entry is found at a position that is given.

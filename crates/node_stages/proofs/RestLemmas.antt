@@ -16,7 +16,8 @@ use Rattle.shard_tables.specs.Stores.{IsStoreOf, note_of}
 use Rattle.tao_base.specs.Keys.{key_shard}
 use Rattle.tao_base.specs.declared.entry.Entry.{Entry}
 use Rattle.tao_base.specs.declared.id.StoreName.{StoreName}
-use Rattle.tao_keeper.specs.Table.{Table, Tables}
+use Rattle.tao_keeper.proofs.Cuts.{cut_laws}
+use Rattle.tao_keeper.specs.Table.{Table, Tables, live_entry}
 use Rattle.core_model.specs.Messages.{Processes}
 use Rattle.node_stages.specs.Caches.{ChangesAlone}
 use Rattle.node_stages.specs.Catching.{ProcessesRest, TouchShard}
@@ -32,13 +33,15 @@ after_get (x ∷ log) (suc low) (suc place) e le h =
     let same : suc place - suc low ≡ place - low = omega arith in
     ap (slice_get (drop low log)) same ∙ after_get log low place e (omega (arith, le)) h
 
--- one entry more
-pub rest_more : (old one : Table) (low place : ℕ) (e : Entry) (es zs : List Entry) (found : Option Entry) → one ≡ old → low ≤ place
-    → es ≡ take (place - low) (drop low old.log) → found ≡ entry_at one.log (place + 1) → found ≡ Some e → zs ≡ es ++ e ∷ []
+-- one entry more, which is live: the position isn't before the log's cut
+pub rest_more : (old one : Table) (low place : ℕ) (e : Entry) (es zs : List Entry) (found : Option Entry) → one ≡ old → old.cut ≤ low → low ≤ place
+    → es ≡ take (place - low) (drop low old.log) → found ≡ live_entry one (place + 1) → found ≡ Some e → zs ≡ es ++ e ∷ []
     → zs ≡ take (place + 1 - low) (drop low old.log)
-rest_more old one low place e es zs found stays le so_far asked is put =
+rest_more old one low place e es zs found stays live le so_far asked is put =
     let next : suc place ≡ place + 1 = omega arith in
-    let stands : slice_get old.log place ≡ Some e = ap (entry_at old.log) next ∙ sym (ap (λ t. entry_at t.log (place + 1)) stays) ∙ sym asked ∙ is in
+    let read : live_entry old (place + 1) ≡ entry_at old.log (place + 1) = (cut_laws.live old (place + 1) (omega arith)).0 in
+    let stands : slice_get old.log place ≡ Some e =
+    ap (entry_at old.log) next ∙ sym read ∙ sym (ap (λ (t : Table). live_entry t (place + 1)) stays) ∙ sym asked ∙ is in
     let more : place + 1 - low ≡ place - low + 1 = omega arith in
     put ∙ ap (λ v. v ++ e ∷ []) so_far ∙ sym (take_with (drop low old.log) (place - low) e (after_get old.log low place e le stands))
     ∙ sym (ap (λ n. take n (drop low old.log)) more)

@@ -1,5 +1,5 @@
 //! A node processes the rest of the log of a store.
-ghost use Rattle.std.specs.Prelude.{◌≡◌, ◌++◌, ◌∷◌, [], IfErr, IfOk, OnErr, OnOk, Some, drop, length, take};
+ghost use Rattle.std.specs.Prelude.{◌≡◌, ◌≤◌, ◌++◌, ◌∷◌, [], IfErr, IfOk, OnErr, OnOk, Some, drop, length, take};
 ghost use Rattle.core_model.specs.Messages.{Processes};
 ghost use Rattle.graph_model.specs.Told.{WhereTold};
 ghost use Rattle.node_stages.specs.Caches.{ChangesAlone};
@@ -32,7 +32,7 @@ fn put(entries: &mut Vec<Entry>, entry: Entry) -> Result<(), AllocError>
     Ok(())
 }
 
-/// The entries of the keeper's log after a position, up to its length. A keeper that gives no entry at one of these positions tells
+/// The entries of the keeper's log after a position that isn't before its cut, up to its length. A keeper that gives no entry at one of these positions tells
 /// nothing: then the entries before it are all that there are.
 fn entries_after<K: Keeper>(
     alloc: Global,
@@ -42,6 +42,7 @@ fn entries_after<K: Keeper>(
     until: u64,
 ) -> Result<Vec<Entry>, StoreRefusal>
     requires keeper { IsStoreOf K.TELLS (K.state keepers.old).told store.old }
+    requires live { WhereTold K.TELLS (((K.state keepers.old).told store.old.name).cut ≤ low) }
     requires all { WhereTold K.TELLS (until ≡ length ((K.state keepers.old).told store.old.name).log) }
     ensures entries { WhereTold K.TELLS (IfOk result (λ entries. entries.items ≡ drop low ((K.state keepers.old).told store.old.name).log)) }
     ensures refused { IfErr result IsOfReads }
@@ -69,6 +70,7 @@ fn read_rest<K: Keeper>(
     until: u64,
 ) -> Result<Rest, StoreRefusal>
     requires keeper { IsStoreOf K.TELLS (K.state keepers.old).told store.old }
+    requires live { WhereTold K.TELLS (((K.state keepers.old).told store.old.name).cut ≤ low) }
     requires all { WhereTold K.TELLS (until ≡ length ((K.state keepers.old).told store.old.name).log) }
     ensures entries { WhereTold K.TELLS (IfOk result (λ rest. rest.entries.items ≡ drop low ((K.state keepers.old).told store.old.name).log)) }
     ensures note { IfOk result (λ rest. rest.note ≡ note_of store.old) }
@@ -94,8 +96,9 @@ fn process_all<C: Cache>(cache: &mut C, shard: u16, entries: &[Entry], note: Not
     cache.is_true();
 }
 
-/// A node processes what follows its low-water mark in the log of a store of a shard that it serves, up to this length. Where it can't, it
-/// stays as it was. Costs a call of the keeper for each entry, and takes the memory of these entries.
+/// A node processes what follows its low-water mark in the log of a store of a shard that it serves, up to this length. What follows the mark
+/// is live: the mark isn't before the log's cut. Where it can't, the node stays as it was. Costs a call of the keeper for each entry, and takes the
+/// memory of these entries.
 pub fn catch_up_with<C: Cache, K: Keeper>(
     alloc: Global,
     cache: &mut C,
@@ -107,6 +110,7 @@ pub fn catch_up_with<C: Cache, K: Keeper>(
     requires keeper { IsStoreOf K.TELLS (K.state keepers.old).told store.old }
     requires all { WhereTold K.TELLS (until ≡ length ((K.state keepers.old).told store.old.name).log) }
     requires here { WhereTold K.TELLS (TouchShard store.old.name.shard ((K.state keepers.old).told store.old.name).log) }
+    requires live { WhereTold K.TELLS (((K.state keepers.old).told store.old.name).cut ≤ low_at store.old.name.shard (C.node cache.old).served) }
     ensures does { OnOk result (ProcessesRest C.node C.refills K.TELLS ((K.state keepers.old).told store.old.name).log store.old cache.old cache.new) }
     ensures err { OnErr result (cache.new ≡ cache.old) }
     ensures refused { IfErr result IsOfReads }

@@ -16,9 +16,10 @@ use Rattle.write_model.specs.MergeLaws.{MayBeMerged}
 use Rattle.core_model.proofs.NamedNodes.{changes_at}
 use Rattle.core_model.specs.Fleet.{serves}
 use Rattle.core_model.specs.Jobs.{far_shard, job_on}
-use Rattle.core_model.specs.Stores.{master_store}
+use Rattle.core_model.specs.Stores.{IsConfiguredStore, master_store}
 use Rattle.node_stages.specs.Stages.{LeaderDoes}
 use Rattle.core_nodes.proofs.CommitLemmas.{Written, of_master}
+use Rattle.core_nodes.proofs.GrowingLemmas.{gains_stores, in_order_on}
 use Rattle.core_nodes.proofs.JobLemmas.{may_be_merged}
 use Rattle.core_nodes.proofs.MasterStores.{IsMasterRead, master_read, pen_is, pens_rise, rest_again, stores_left}
 use Rattle.core_nodes.proofs.MergeLemmas.{merge_left}
@@ -102,7 +103,9 @@ returns g c =
           from c.merge_of.new.leader) pen node);
       rest = rest_again xs place store after r is.stands made.store.log;
       stores = stores_left tells s old.told new.told xs shard place store after c.requires.stores is goes made.store.keeper
-          (λ is_told. others_stay old.told new.told store.name (added_entry r) None (made.done.tables is_told)) (λ is_told. (left is_told).kept);
+          (λ is_told. others_stay old.told new.told store.name (added_entry r) None (made.done.tables is_told))
+          (in_order_on tells s old.told new.told c.requires.stores.cuts (λ is_told. (left is_told).kept)
+          (gains_stores tells s old new store.name (added_entry r) None (subst (IsConfiguredStore s) (sym is.named) is.configured) made.done.tables));
       rise = pens_rise tells s old.told new.told xs shard place store after c.requires.stores is goes;
       note = subst (λ v. IfOk r (λ wrote. wrote.note ≡ as_note v)) pen made.store.note;
       done = done;

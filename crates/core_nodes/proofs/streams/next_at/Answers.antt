@@ -27,15 +27,15 @@ pub returns-in-Some-clause-finds : goal.returns-in-Some-clause-finds
 returns-in-Some-clause-finds g c =
     let state = g.K.Keeper.state in
     let s : Settings = c.args.config.now in
-    finds_some g.K.Keeper.TELLS s (state c.args.keepers.now).told (state c.stored_length.new.keepers).told c.args.stores.now c.requires.stores c.args.at
-    c.requires.here c.stored_length.ensures.tables c.args.position c.in_ok-next.field-0 c.unwrap_or-asked.result c.in_ok-next.ensures.length
-    c.unwrap_or-asked.ensures c.in_ok-found.found c.in-Some.entry c.in_ok-found.ensures.entry c.in-Some.is
+    finds_some g.K.Keeper.TELLS s (state c.args.keepers.now).told (state c.stored_length.new.keepers).told c.args.stores.now
+    c.masters_are_regions.ensures c.requires.stores c.args.at c.requires.here c.stored_length.ensures.tables c.args.position c.in_ok-next.field-0
+    c.unwrap_or-asked.result c.in_ok-next.ensures.length c.unwrap_or-asked.ensures c.in_ok-found.found c.in-Some.entry c.in_ok-found.ensures.entry c.in-Some.is
 
 pub returns-in-None-clause-finds : goal.returns-in-None-clause-finds
 returns-in-None-clause-finds g c =
     let state = g.K.Keeper.state in
     let s : Settings = c.args.config.now in
-    finds_none g.K.Keeper.TELLS s (state c.args.keepers.now).told (state c.stored_length.new.keepers).told c.args.stores.now c.requires.stores c.args.at
-    c.requires.here c.stored_length.ensures.tables c.args.position c.in_ok-next.field-0 c.unwrap_or-asked.result c.in_ok-next.ensures.length
-    c.unwrap_or-asked.ensures c.in_ok-found.found (state c.stored_entry.new.keepers).told c.nothing_at.result c.in_ok-found.ensures.entry c.in-None.is
+    finds_none g.K.Keeper.TELLS s (state c.args.keepers.now).told (state c.stored_length.new.keepers).told c.args.stores.now
+    c.masters_are_regions.ensures c.requires.stores c.args.at c.requires.here c.stored_length.ensures.tables c.args.position c.in_ok-next.field-0
+    c.unwrap_or-asked.result c.in_ok-next.ensures.length c.unwrap_or-asked.ensures c.in_ok-found.found (state c.stored_entry.new.keepers).told c.nothing_at.result c.in_ok-found.ensures.entry c.in-None.is
     c.stored_entry.ensures.tables c.nothing_at.ensures.nothing

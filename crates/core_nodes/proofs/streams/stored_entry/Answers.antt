@@ -1,7 +1,7 @@
 use Rattle.std.proofs.Common.{◌≡◌, IfOk, ap, subst, ◌∙◌}
-use Rattle.graph_model.specs.Log.{entry_at}
 use Rattle.graph_model.specs.Told.{WhereTold}
 use Rattle.tao_base.specs.declared.id.StoreName.{StoreName}
+use Rattle.tao_keeper.specs.Table.{live_entry}
 use Rattle.topology.specs.Config.{Settings}
 use Rattle.core_model.specs.Stores.{IsConfiguredStore, master_store, store_place}
 use Rattle.core_nodes.proofs.StoreLemmas.{put_back, read_store}
@@ -26,7 +26,7 @@ returns g c =
     let spot = c.store_place-place.ensures ∙ ap (store_place s) c.master_store.ensures in
     let is = read_store g.K.Keeper.TELLS s tables c.args.stores.now c.requires.stores at c.store_place-place.result c.index-stores-place.result here spot in
     record {
-      entry = subst (λ (n : StoreName). WhereTold g.K.Keeper.TELLS (IfOk c.entry.result (λ found. found ≡ entry_at (tables n).log c.args.position)))
+      entry = subst (λ (n : StoreName). WhereTold g.K.Keeper.TELLS (IfOk c.entry.result (λ found. found ≡ live_entry (tables n) c.args.position)))
           is.found.name_is c.entry.ensures.answer;
       given = c.entry.ensures.given;
       same = put_back g.K.Keeper.TELLS s tables c.args.stores.now c.requires.stores at c.store_place-place.result c.index-stores-place.result

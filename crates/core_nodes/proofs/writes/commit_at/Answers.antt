@@ -15,9 +15,10 @@ use Rattle.tao_schema.specs.Schema.{types_of}
 use Rattle.topology.specs.Config.{Settings}
 use Rattle.core_model.proofs.NamedNodes.{changes_at}
 use Rattle.core_model.specs.Fleet.{serves}
-use Rattle.core_model.specs.Stores.{master_store}
+use Rattle.core_model.specs.Stores.{IsConfiguredStore, master_store}
 use Rattle.node_stages.specs.Stages.{LeaderDoes}
 use Rattle.core_nodes.proofs.CommitLemmas.{Written, of_master}
+use Rattle.core_nodes.proofs.GrowingLemmas.{gains_stores, in_order_on}
 use Rattle.core_nodes.proofs.KeptCommits.{commit_keeps}
 use Rattle.core_nodes.proofs.MasterStores.{IsMasterRead, master_read, pen_is, pens_rise, rest_again, stores_left}
 use Rattle.core_nodes.proofs.StoreLemmas.{found_log, goes_with, others_stay, sound_at}
@@ -95,8 +96,8 @@ returns g c =
     from c.commit_of.new.leader) (subst (λ on. LeaderDoes (TakesWritten (types_of s.schema) store.name.shard (taken_entry on r) (as_note after.view))
     from c.commit_of.new.leader) turn made.node) in
     let first = subst (λ epoch. WriteDone tells store.name (asked_write (types_of s.schema) store.log_max epoch
-    (old.told store.name).log c.args.call.now.origin c.args.call.now.write.now) old new r) is.epoch made.done in
-    let done = words (λ types most name. WriteDone tells name (asked_write types most 0 (old.told name).log c.args.call.now.origin c.args.call.now.write.now)
+    (old.told store.name) c.args.call.now.origin c.args.call.now.write.now) old new r) is.epoch made.done in
+    let done = words (λ types most name. WriteDone tells name (asked_write types most 0 (old.told name) c.args.call.now.origin c.args.call.now.write.now)
     old new r)
     first in
     let keeps = commit_keeps tells s c.args.call.now.origin c.args.call.now.write.now old new c.requires.shard
@@ -111,7 +112,10 @@ returns g c =
       rest = rest_again xs place store after r is.stands made.store.log;
       stores = stores_left tells s old.told new.told xs shard place store after c.requires.stores is goes made.store.keeper
           (λ is_told. others_stay old.told new.told store.name (added_entry r) (job_with (types_of s.schema) (added_entry r))
-          (made.done.tables is_told)) keeps.kept;
+          (made.done.tables is_told))
+          (in_order_on tells s old.told new.told c.requires.stores.cuts keeps.kept
+          (gains_stores tells s old new store.name (added_entry r) (job_with (types_of s.schema) (added_entry r))
+          (subst (IsConfiguredStore s) (sym is.named) is.configured) made.done.tables));
       rise = pens_rise tells s old.told new.told xs shard place store after c.requires.stores is goes;
       note = subst (λ v. IfOk r (λ wrote. wrote.note ≡ as_note v)) pen made.store.note;
       done = done;

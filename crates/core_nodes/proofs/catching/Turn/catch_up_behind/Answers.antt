@@ -8,7 +8,7 @@ use Rattle.core_nodes.specs.Beginning.{length_at}
 use Rattle.core_nodes.specs.Dues.{StopsAtDue, due_at}
 use Rattle.core_nodes.specs.Outside.{outside}
 use Rattle.core_nodes.specs.Settling.{StopsCatchUp}
-use Rattle.core_nodes.proofs.CatchLemmas.{log_there, touches_there}
+use Rattle.core_nodes.proofs.CatchLemmas.{log_there, past_there, touches_there}
 use Rattle.core_nodes.proofs.CatchSteps.{cache_same, caught_with}
 use Rattle.core_nodes.proofs.SettleLemmas.{carry_stops, carry_stops_here, meets_here, read_stops}
 use Rattle.core_nodes.proofs.StoreLemmas.{put_back, read_store}
@@ -30,6 +30,8 @@ process_rest-requires g c =
       all = λ told. c.length_at-until.ensures ∙ ap (length_at c.args.self.now.lengths.now) c.store_place-place.ensures
           ∙ c.requires.lengths.each c.args.at c.requires.here told ∙ ap (λ (n : StoreName). length (tables n).log) (sym is.found.name_is);
       here = touches_there tells s tables c.args.stores.now c.args.cache.now.name c.requires.stores c.args.at c.requires.here c.requires.region node
+          c.requires.may store is c.requires.serves;
+      live = past_there tells s tables c.args.stores.now c.args.cache.now.name c.requires.stores c.args.at c.requires.here c.requires.region node
           c.requires.may store is c.requires.serves;
     }
 

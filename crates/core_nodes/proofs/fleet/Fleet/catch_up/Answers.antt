@@ -29,11 +29,11 @@ catch_up_caches-requires g c =
       leaders =
           subst (λ (ms : List Store). AreCaches leader_node (seen_logs tells s tables (pens_of ms)) c.deref_mut.result.now) (sym stores)
           (subst (AreCaches leader_node (seen_logs tells s tables (pens_of old.stores))) (sym leaders)
-          (leaders_are tells s tables old c.requires.consistent));
+          (leaders_are tells s tables old c.requires.consistent c.requires.past));
       followers =
           subst (λ (ms : List Store). AreCaches follower_node (seen_logs tells s tables (pens_of ms)) c.deref_mut-2.result.now) (sym stores)
           (subst (AreCaches follower_node (seen_logs tells s tables (pens_of old.stores))) (sym followers)
-          (followers_are tells s tables old c.requires.consistent));
+          (followers_are tells s tables old c.requires.consistent c.requires.past));
       lengths = c.requires.lengths;
     }
 

@@ -18,7 +18,7 @@ returns g c =
     let own = c.deref_mut.ensures.value ∙ ap (λ (f : Fleet). f.stores) c.self.view_is in
     let long : length c.merge_over.new.stores ≡ c.self.inside.stores.len = omega arith in
     let done = grown_lent g.K.Keeper.TELLS c.args.config.now (g.K.Keeper.state c.args.keepers.now).told (g.K.Keeper.state c.merge_over.new.keepers).told
-    c.self.inside c.args.self.now c.deref_mut.result.now c.merge_over.new.stores c.self.view_is own long c.requires.consistent given.grows.logs given.stores
+    c.self.inside c.args.self.now c.deref_mut.result.now c.merge_over.new.stores c.self.view_is own long c.requires.consistent given.grows.on.logs given.stores
     given.rise in
     let shard = far_shard c.args.job.now.job.now in
     let r = c.merge_over.result in

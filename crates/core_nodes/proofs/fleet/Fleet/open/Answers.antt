@@ -5,7 +5,7 @@ use Rattle.core_model.specs.Stores.{AreStoresOf, store_count}
 use Rattle.core_nodes.proofs.AskLemmas.{still_consistent}
 use Rattle.core_nodes.proofs.FleetBegins.{begun_at_stores, begun_consistent, fleet_bounds, fleet_empty}
 use Rattle.core_nodes.proofs.OpenLemmas.{opened_kept}
-use Rattle.core_nodes.proofs.OpenedLogs.{kept_opened, opened_grow, refused_beginning, refused_grow}
+use Rattle.core_nodes.proofs.OpenedLogs.{opened_grow, opened_in_order, refused_beginning, refused_grow}
 use Rattle.core_nodes.proofs.fleet.Fleet.open.Goals as goal
 
 pub returns-in_err-stores-clause-grows : goal.returns-in_err-stores-clause-grows
@@ -25,7 +25,8 @@ returns g c =
     let stays = c.fleet_before.ensures.stays in
     let are : AreStoresOf tells s mid stores = record {
       configured = c.in_ok-stores.ensures.stores;
-      kept = λ told. kept_opened s c.args.line.now old mid (c.requires.kept told) (c.in_ok-stores.ensures.opened told);
+      kept = λ told. (opened_in_order s c.args.line.now old mid (c.requires.kept told) (c.in_ok-stores.ensures.opened told)).kept;
+      cuts = λ told. (opened_in_order s c.args.line.now old mid (c.requires.kept told) (c.in_ok-stores.ensures.opened told)).cuts;
       seen = c.in_ok-stores.ensures.seen;
       follow = c.in_ok-stores.ensures.follow;
     } in

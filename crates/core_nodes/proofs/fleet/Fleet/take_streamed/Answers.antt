@@ -32,7 +32,7 @@ returns g c =
     let long : length ys ≡ c.self.inside.stores.len = omega arith in
     let rise : Rise (pens_of lent) (pens_of ys) = subst (Rise (pens_of lent)) (sym given.pens) (rise_self lent) in
     let done = grown_lent tells s (state c.args.keepers.now).told (state c.take_at.new.keepers).told c.self.inside old lent ys c.self.view_is own long
-    c.requires.consistent given.grows.logs given.stores rise in
+    c.requires.consistent given.grows.on.logs given.stores rise in
     record {
       streams = given.streams;
       pens = ap pens_of done.stores_are ∙ given.pens ∙ ap pens_of own;

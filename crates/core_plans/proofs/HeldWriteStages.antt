@@ -455,7 +455,7 @@ module _ (tells : Bool) (s : Settings) (p q : Writing) (old new : World) (is : I
   Goes r = IsWriteUnderWay tells s new.keepers.told new.fleet r
 
   later : Goes p
-  later = write_later tells s old.keepers.told new.keepers.told old.fleet new.fleet p on.consistent on.goes on.grows is
+  later = write_later tells s old.keepers.told new.keepers.told old.fleet new.fleet p on.consistent on.goes on.grows.on is
 
   module _ (leaders : Leaders) (at : next_of p ≡ Commit) where
     abbrev Commits : Type 0

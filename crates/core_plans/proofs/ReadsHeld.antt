@@ -36,7 +36,7 @@ reads_post rules old new ready on =
       inboxes = subst (AreInboxesOf s pens) (sym on.inboxes)
           ((inboxes_stay s (pens_of old.fleet.stores) old.inboxes).rises pens on.goes.rise ready.inboxes);
       arrived = subst (λ i. WhereTold tells (HaveArrived new.keepers.told i)) (sym on.inboxes)
-          (arrived_grows tells old.keepers.told new.keepers.told old.inboxes grows.logs ready.arrived);
+          (arrived_grows tells old.keepers.told new.keepers.told old.inboxes grows.on.logs ready.arrived);
       states = on.states;
       goes = on.goes;
       grows = grows;

@@ -9,7 +9,7 @@ use Rattle.node_name.specs.declared.NodeName.{NodeName}
 use Rattle.replies.specs.declared.refusals.Refusal.{Refusal}
 use Rattle.replies.specs.declared.refusals.Refusal.TheVariants.{Store, Memory}
 use Rattle.replies.specs.declared.refusals.StoreRefused.{StoreRefused}
-use Rattle.replies.specs.declared.refusals.StoreRefused.TheVariants.{SeqReused, ShardFull, StampFull, LogFull, KeeperFault, LinkFault, Unsettled}
+use Rattle.replies.specs.declared.refusals.StoreRefused.TheVariants.{SeqReused, TooOld, ShardFull, StampFull, LogFull, KeeperFault, LinkFault, Unsettled}
 use Rattle.write_plan.specs.Plans.{Writing}
 use Rattle.core_plans.specs.HeldWrites.{RefusesOnWay, RefusesWrite, come_past, sent_by, way_by}
 use Rattle.core_plans.specs.LedBy.{LedBy}
@@ -20,6 +20,7 @@ module _ (led : LedBy) (p : Writing) (old new : World) where
   store_none : (refused : StoreRefused) → NotCommitted led.tells led.settings (sent_by led p) refused (come_past led old) new
       → ChangesNoNode led.tells (come_past led old) new
   store_none (LinkFault count when) is = is.1.same
+  store_none (TooOld cut position) is = is.1.same
   store_none (SeqReused position) is = is.1.same
   store_none (ShardFull serial) is = is.1.same
   store_none (StampFull number) is = is.1.same
@@ -40,6 +41,7 @@ module _ (led : LedBy) (p : Writing) (old new : World) where
 
   stopped_none : (route : Route) (refused : StoreRefused) → RefusesPassing led.tells route (Store refused) old new → ChangesNoNode led.tells old new
   stopped_none route (LinkFault count when) is = is.1.same
+  stopped_none route (TooOld cut position) is = absurd is
   stopped_none route (SeqReused position) is = absurd is
   stopped_none route (ShardFull serial) is = absurd is
   stopped_none route (StampFull number) is = absurd is

@@ -2,7 +2,7 @@
 use Rattle.std.proofs.Common.{◌≡◌, ℕ, ◌≤◌, true, Bool, Some, None, arith}
 use Rattle.core_model.specs.Consistent.{GoesOn}
 use Rattle.core_model.specs.Fleet.{Fleet}
-use Rattle.core_model.specs.Growing.{StoresGrow}
+use Rattle.core_model.specs.Growing.{TablesGoOn}
 use Rattle.core_model.specs.Pens.{Pens, Rise, pens_of}
 use Rattle.core_model.specs.Reads.{IsGivenFill, Wanted}
 use Rattle.core_model.specs.Stores.{master_log}
@@ -47,14 +47,14 @@ stands_still types pens later read Mastering rise is = tt
 stands_still types pens later read (Ended end) rise is = tt
 
 -- a log that grew is no less far
-reached_later : (tells : Bool) (s : Settings) (tables later : Tables) (key : Key) (shard floor : ℕ) → StoresGrow tells s tables later → tells ≡ true
+reached_later : (tells : Bool) (s : Settings) (tables later : Tables) (key : Key) (shard floor : ℕ) → TablesGoOn tells s tables later → tells ≡ true
     → floor ≤ version (master_log s tables shard) key → floor ≤ version (master_log s later shard) key
 reached_later tells s tables later key shard floor grows told le =
     let rises = version_later tells s tables later key shard grows.logs told in
     omega arith
 
 pub under_way_later : (tells : Bool) (s : Settings) (tables later : Tables) (f g : Fleet) (p : Reading) → IsReadUnderWay tells s tables f p → GoesOn f g
-    → StoresGrow tells s tables later → IsReadUnderWay tells s later g p
+    → TablesGoOn tells s tables later → IsReadUnderWay tells s later g p
 under_way_later tells s tables later f g p is goes grows = record {
   follower = is.follower;
   region = is.region;

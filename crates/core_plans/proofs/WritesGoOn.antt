@@ -5,7 +5,7 @@ use Rattle.std.proofs.lemmas.Option.{IfSome_then}
 use Rattle.core_model.proofs.StayingJobs.{jobs_stay_owed}
 use Rattle.core_model.specs.Consistent.{GoesOn, IsConsistent}
 use Rattle.core_model.specs.Fleet.{Fleet}
-use Rattle.core_model.specs.Growing.{StoresGrow}
+use Rattle.core_model.specs.Growing.{TablesGoOn}
 use Rattle.core_model.specs.Jobs.{CanBeMerged, IsMergedJob, ShardJob, far_shard}
 use Rattle.core_model.specs.Pens.{Rise, pens_of}
 use Rattle.core_model.specs.Stores.{AreKeptIn}
@@ -74,7 +74,7 @@ module _ (tells : Bool) (s : Settings) (tables later : Tables) (grows : LogsGrow
 
 -- it can go on
 pub write_later : (tells : Bool) (s : Settings) (tables later : Tables) (f g : Fleet) (p : Writing) → IsConsistent tells s later g → GoesOn f g
-    → StoresGrow tells s tables later → IsWriteUnderWay tells s tables f p → IsWriteUnderWay tells s later g p
+    → TablesGoOn tells s tables later → IsWriteUnderWay tells s tables f p → IsWriteUnderWay tells s later g p
 write_later tells s tables later f g p consistent goes grows is = record {
   follower = is.follower;
   region = is.region;
@@ -111,6 +111,6 @@ same_stores tells s tables f g p same is = record {
 
 -- so each plan that is held
 pub plan_later : (tells : Bool) (s : Settings) (tables later : Tables) (f g : Fleet) (plan : HeldPlan) → IsConsistent tells s later g → GoesOn f g
-    → StoresGrow tells s tables later → IsUnderWay tells s tables f plan → IsUnderWay tells s later g plan
+    → TablesGoOn tells s tables later → IsUnderWay tells s tables f plan → IsUnderWay tells s later g plan
 plan_later tells s tables later f g (Read p) consistent goes grows is = under_way_later tells s tables later f g p is goes grows
 plan_later tells s tables later f g (Write p) consistent goes grows is = write_later tells s tables later f g p consistent goes grows is

@@ -100,6 +100,7 @@ module _ (tells : Bool) (s : Settings) (shard : ℕ) (old new : KeeperState) whe
   refuses_first (store.LogFull count) failed is stays cause = absurd is
   refuses_first (store.ShardFull serial) failed is stays cause = absurd is
   refuses_first (store.StampFull number) failed is stays cause = absurd is
+  refuses_first (store.TooOld cut position) failed is stays cause = absurd is
   refuses_first (store.SeqReused position) failed is stays cause = absurd is
 
 -- ---- the merge, and the end
@@ -127,6 +128,7 @@ module _ (tells : Bool) (s : Settings) (j : ShardJob) (old new : Outside) where
   refuses_end (store.LogFull count) failed is alone cause = absurd is
   refuses_end (store.ShardFull serial) failed is alone cause = absurd is
   refuses_end (store.StampFull number) failed is alone cause = absurd is
+  refuses_end (store.TooOld cut position) failed is alone cause = absurd is
   refuses_end (store.SeqReused position) failed is alone cause = absurd is
 
 -- ---- both, seen from the core
@@ -208,7 +210,7 @@ module _ (tells : Bool) (s : Settings) (was : Nodes) (before after : KeeperState
   posts_merged from to ready consistent goes grows later link = record {
     consistent = consistent;
     inboxes = (inboxes_stay s (pens_of was.fleet.stores) was.mail).rises (pens_of fleet.stores) goes.rise ready.inboxes;
-    arrived = arrived_grows tells before.told after.told was.mail grows.logs ready.arrived;
+    arrived = arrived_grows tells before.told after.told was.mail grows.on.logs ready.arrived;
     states = refl;
     goes = goes;
     grows = grows;

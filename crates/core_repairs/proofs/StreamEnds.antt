@@ -26,11 +26,11 @@ use Rattle.core_model.specs.Fleet.{Fleet}
 use Rattle.core_model.specs.Stores.{master_log, master_of, master_store, region_store, stores_in}
 use Rattle.core_nodes.specs.Opening.{IsSlaveStore}
 use Rattle.core_nodes.specs.Settling.{IsLaterLink}
-use Rattle.core_nodes.specs.Streams.{IsToCarry, StreamsTo, next_position}
+use Rattle.core_nodes.specs.Streams.{HasAll, IsToCarry, StreamsTo, next_position}
 use Rattle.core_nodes.specs.declared.settling.SettleStop.{SettleStop}
 use Rattle.core_steps.proofs.LinkLemmas.{carried_on, link_stays, link_trans}
 use Rattle.core_steps.specs.Posting.{ChangesNoNode}
-use Rattle.core_steps.specs.Streams.{OnlyReadsKeepers, RefusesStream, StreamsEntry, StreamsNothing, StreamsOver, TakesAs}
+use Rattle.core_steps.specs.Streams.{NeedsNoCarry, OnlyReadsKeepers, RefusesStream, StreamsEntry, StreamsNothing, StreamsOver, TakesAs}
 use Rattle.core_steps.specs.World.{World}
 use Rattle.core_repairs.specs.Streams.{AreUpTo, AreWholeBefore, HaveStreamed, IsOfNextStep, IsStreamedBefore, IsStreamedUpTo}
 use Rattle.core_repairs.specs.Streams.{StopsAsRefused, StopsStreams, StreamStep, StreamStopHasCause, StreamsAll, StreamsFrom, StreamsOnce, StreamsTill}
@@ -169,6 +169,7 @@ module _ (tells : Bool) (s : Settings) (at : StoreName) (old new : World) where
   of_next_step (refusal.Store (store.KeeperFault count)) is = tt
   of_next_step (refusal.Store (store.LinkFault count when)) is = tt
   of_next_step (refusal.Memory position) is = tt
+  of_next_step (refusal.Store (store.TooOld cut position)) is = absurd is
   of_next_step (refusal.Store (store.SeqReused position)) is = absurd is
   of_next_step (refusal.Store (store.ShardFull serial)) is = absurd is
   of_next_step (refusal.Store (store.StampFull number)) is = absurd is
@@ -189,6 +190,7 @@ module _ (tells : Bool) (s : Settings) (at : StoreName) (old new : World) where
   refused_same (refusal.Store (store.KeeperFault count)) is = is.2.same
   refused_same (refusal.Store (store.LinkFault count when)) is = is.3
   refused_same (refusal.Memory position) is = is.1.same
+  refused_same (refusal.Store (store.TooOld cut position)) is = absurd is
   refused_same (refusal.Store (store.SeqReused position)) is = absurd is
   refused_same (refusal.Store (store.ShardFull serial)) is = absurd is
   refused_same (refusal.Store (store.StampFull number)) is = absurd is
@@ -215,6 +217,7 @@ module _ (tells : Bool) (s : Settings) (at : StoreName) (old new : World) where
       subst (λ g. StreamStopHasCause g start new) (sym stops)
       (Rose-earlier start.link.faults old.link.faults new.link.faults link.faults is.2.rose)
   refused_cause start (refusal.Memory position) given link keepers stops is = subst (λ g. StreamStopHasCause g start new) (sym stops) tt
+  refused_cause start (refusal.Store (store.TooOld cut position)) given link keepers stops is = absurd is
   refused_cause start (refusal.Store (store.SeqReused position)) given link keepers stops is = absurd is
   refused_cause start (refusal.Store (store.ShardFull serial)) given link keepers stops is = absurd is
   refused_cause start (refusal.Store (store.StampFull number)) given link keepers stops is = absurd is
@@ -238,6 +241,15 @@ module _ (tells : Bool) (s : Settings) (at : StoreName) (old new : World) where
   step_followers (Ok streamed) (inl none) = ap (λ (w : World). w.fleet.followers) none.rest.rest
   step_followers (Ok streamed) (inr entry) = taken_followers streamed.verdict entry.entry entry.takes
   step_followers (Err r) is = ap (λ (f : Fleet). f.followers) (refused_same r is).fleet
+
+-- where no position is asked for, nothing is carried only into a store that has all of its shard's log
+module _ (tells : Bool) (s : Settings) (at : StoreName) (tables : Tables) where
+  nothing_left : (said : StreamVerdict) → NeedsNoCarry tells s (asks_next at) said tables
+      → (said ≡ verdict.None) × WhereTold tells (HasAll s tables at None)
+  nothing_left verdict.None why = (refl, why)
+  nothing_left verdict.Old why = let asked : false ≡ true = why.0 in absurd (cc)
+  nothing_left verdict.Applied why = absurd why
+  nothing_left verdict.Gap why = absurd why
 
 -- ---- one step more
 
@@ -269,7 +281,7 @@ module _ (tells : Bool) (s : Settings) (at : StoreName) (old new : World) (slave
         streamed = stream_and_read tells s so.steps start old new so.streamed none.rest;
         up_to = up_to_next at so.steps so.up_to;
         whole = λ told. subst (λ (t : Tables). AreWholeBefore s t (next_shard at)) (same told)
-            (whole_next s old.keepers.told at (none.has_all told).whole (so.whole told));
+            (whole_next s old.keepers.told at ((nothing_left tells s at old.keepers.told streamed.verdict none.why).1 told).whole (so.whole told));
         shards = λ told. subst (λ (t : Tables). stores_in s t ≡ stores_in s start.keepers.told) (same told) (so.shards told);
         keepers = later_trans start.keepers old.keepers new.keepers so.keepers later;
       }
@@ -300,8 +312,8 @@ module _ (tells : Bool) (s : Settings) (at : StoreName) (old new : World) (slave
   pub goes_more : (last : ℕ) (streamed : Streamed) (more : Bool) → StreamsOnce tells s at (Ok streamed) old new → more ≡ goes_further last streamed
       → more ≡ true → StreamsFrom tells s at at (Ok tt) old new × WhereTold tells (streamed.next ≤ next_position new.keepers.told at)
   goes_more last streamed more (inl none) is goes =
-      let no = subst (λ said. goes_further last (record { hops = streamed.hops; next = streamed.next; verdict = said }) ≡ true) none.verdict_is
-      (sym is ∙ goes) in
+      let no = subst (λ said. goes_further last (record { hops = streamed.hops; next = streamed.next; verdict = said }) ≡ true)
+      (nothing_left tells s at old.keepers.told streamed.verdict none.why).0 (sym is ∙ goes) in
       absurd (cc)
   goes_more last streamed more (inr entry) is goes = (
     record { on = λ start so. one_more tells s at old new slave streamed entry later start so },

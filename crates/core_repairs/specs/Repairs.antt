@@ -86,6 +86,7 @@ FailsAs refusal.OutOfMemory failed = failed ≡ Refused OutOfMemory
 FailsAs (refusal.LogFull count) failed = ⊥
 FailsAs (refusal.ShardFull serial) failed = ⊥
 FailsAs (refusal.StampFull number) failed = ⊥
+FailsAs (refusal.TooOld cut position) failed = ⊥
 FailsAs (refusal.SeqReused position) failed = ⊥
 
 -- the first job is found, or none is, or its store refused to give it

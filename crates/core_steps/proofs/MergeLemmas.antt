@@ -4,8 +4,9 @@ use Rattle.std.specs.Prelude.{IfErr, IfOk, OnErr, OnOk, ⊤}
 use Rattle.graph_model.specs.Told.{WhereTold}
 use Rattle.node_name.specs.declared.NodeName.{NodeName}
 use Rattle.shard_tables.specs.declared.refusal.StoreRefusal.{StoreRefusal}
-use Rattle.shard_tables.specs.declared.refusal.StoreRefusal.TheVariants.{KeeperFault, LogFull, ShardFull, StampFull, SeqReused, OutOfMemory}
+use Rattle.shard_tables.specs.declared.refusal.StoreRefusal.TheVariants.{KeeperFault, LogFull, ShardFull, StampFull, SeqReused, TooOld, OutOfMemory}
 use Rattle.shard_tables.specs.declared.writes.Wrote.{Wrote}
+use Rattle.tao_keeper.proofs.Growing.{cuts_stay}
 use Rattle.tao_keeper.specs.Given.{IsGivenJob}
 use Rattle.tao_keeper.specs.KeeperState.{KeepsTables}
 use Rattle.tao_keeper.specs.Growing.{LogsGrow}
@@ -61,6 +62,7 @@ module _ (tells : Bool) (s : Settings) (way : JobWay) (old new : World) (mid : L
   late_merge KeeperFault cause same back = (cause, same, back)
   late_merge (LogFull count) cause same back = ((λ told. (count, cause told)), same, back)
   late_merge OutOfMemory cause same back = (same, back)
+  late_merge (TooOld cut at) cause same back = absurd cause
   late_merge (SeqReused at) cause same back = absurd cause
   late_merge (ShardFull serial) cause same back = absurd cause
   late_merge (StampFull number) cause same back = absurd cause
@@ -96,9 +98,12 @@ pub end_grows : (tells : Bool) (s : Settings) (old new : Tables) (shard position
     → StoresGrow tells s old new
 end_grows tells s old new shard position (Ok done) regions here logs changes =
     becomes_stores tells s old new (master_store s shard) (after_end (old (master_store s shard)) position)
-    (record { region = regions shard; shard = here }) logs refl changes
+    (record { region = regions shard; shard = here }) logs refl refl changes
 end_grows tells s old new shard position (Err refusal) regions here logs changes = record {
-  logs = logs;
-  lines = λ told at. ap (λ (t : Table). t.line) (changes told at);
-  others = λ told at none. changes told at;
+  on = record {
+    logs = logs;
+    lines = λ told at. ap (λ (t : Table). t.line) (changes told at);
+    others = λ told at none. changes told at;
+  };
+  cuts = cuts_stay tells old new changes;
 }

@@ -69,7 +69,7 @@ module _ (tells : Bool) (s : Settings) where
     inboxes = subst (AreInboxesOf s (pens_of new.fleet.stores)) (sym mail)
         (subst (λ (f : Fleet). AreInboxesOf s (pens_of f.stores) old.inboxes) (sym fleet) inboxes);
     arrived = subst (λ i. WhereTold tells (HaveArrived new.keepers.told i)) (sym mail)
-        (arrived_grows tells old.keepers.told new.keepers.told old.inboxes grows.logs arrived);
+        (arrived_grows tells old.keepers.told new.keepers.told old.inboxes grows.on.logs arrived);
     states = states;
     goes = subst (GoesOn old.fleet) (sym fleet) (goes_self old.fleet);
     grows = grows;

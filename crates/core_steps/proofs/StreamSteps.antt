@@ -1,6 +1,7 @@
 -- What a step of a stream keeps, and what it answers.
 use Rattle.std.proofs.Common.{◌≡◌, ℕ, ◌+◌, Bool, true, [], ◌∷◌, length, Some, Result, Ok, Err, IfErr, IfOk, OnErr, refl, sym, ap, ◌∙◌, subst, inl, inr, arith}
 use Rattle.std.proofs.lemmas.List.{length-append}
+use Rattle.std.specs.Prelude.{IsSome}
 use Rattle.counts.proofs.Rises.{Rose-earlier}
 use Rattle.graph_model.specs.Told.{WhereTold}
 use Rattle.shard_log.proofs.Beginnings.{begins-self}
@@ -21,7 +22,7 @@ use Rattle.replies.specs.declared.nodes.Streamed.{Streamed}
 use Rattle.replies.specs.declared.refusals.Refusal.{Refusal}
 use Rattle.replies.specs.declared.refusals.NodeRefused.TheVariants.{NoEntry}
 use Rattle.replies.specs.declared.refusals.Refusal.TheVariants.{Line, Memory, Name, Node as OfNode, Plan as OfPlan, Session, Store}
-use Rattle.replies.specs.declared.refusals.StoreRefused.TheVariants.{KeeperFault, LinkFault, LogFull, SeqReused, ShardFull, StampFull, Unsettled}
+use Rattle.replies.specs.declared.refusals.StoreRefused.TheVariants.{KeeperFault, LinkFault, LogFull, SeqReused, TooOld, ShardFull, StampFull, Unsettled}
 use Rattle.replies.specs.declared.refusals.When.TheVariants.{Before}
 use Rattle.core_mail.specs.Inboxes.{HaveArrived}
 use Rattle.core_model.specs.Consistent.{GoesOn, IsConsistent}
@@ -85,7 +86,7 @@ module _ (tells : Bool) (s : Settings) (at : StoreName) (e : Entry) (said : Stre
           inboxes = region.inboxes;
           arrived = λ told.
               arrived_as s at e before.told after.told between (world new after link) said (streams told) takes
-              (arrived_grows tells before.told after.told old.mail grows.logs arrived told);
+              (arrived_grows tells before.told after.told old.mail grows.on.logs arrived told);
           states = ap (λ (n : Nodes). n.topology) region.rest;
           goes = goes_trans old.fleet mid new.fleet goes region.goes;
           grows = grows;
@@ -147,6 +148,7 @@ module _ (tells : Bool) (s : Settings) (at : StoreName) where
     pub fails_there : (refusal : Refusal) → AskFails refusal before after → FailsToTake tells s at refusal (world old before link) (world new after carried)
     fails_there (Store (KeeperFault count)) asks = (asks.0, asks.1, nothing)
     fails_there (Memory position) asks = (asks, nothing)
+    fails_there (Store (TooOld cut position)) asks = absurd asks
     fails_there (Store (SeqReused position)) asks = absurd asks
     fails_there (Store (ShardFull serial)) asks = absurd asks
     fails_there (Store (StampFull number)) asks = absurd asks
@@ -297,8 +299,20 @@ module _ (tells : Bool) (s : Settings) (asked : AskedStream) (old between new : 
       → StreamsOver tells s asked (Ok streamed) (world old before link) (world between mid link)
   streamed_nothing next streamed finds is =
       subst (λ x. StreamsOver tells s asked (Ok x) (world old before link) (world between mid link)) (sym is) (inl (record {
-        verdict_is = refl;
-        has_all = λ told. (finds told).1;
+        why = λ told. (finds told).1;
+        next_is = λ told. (finds told).0 ∙ ap (λ (t : Table). length t.log + 1) (sym (stays told asked.at));
+        hops_is = refl;
+        rest = only_read;
+      }))
+
+  -- what is asked for was taken long ago
+  pub streamed_old : (next : ℕ) (streamed : Streamed) → IsSome asked.position
+      → WhereTold tells (FindsNext s before.told asked.at asked.position (found.Old next))
+      → streamed ≡ record { hops = 0; next = next; verdict = verdict.Old }
+      → StreamsOver tells s asked (Ok streamed) (world old before link) (world between mid link)
+  streamed_old next streamed given finds is =
+      subst (λ x. StreamsOver tells s asked (Ok x) (world old before link) (world between mid link)) (sym is) (inl (record {
+        why = (given, λ told. (finds told).1);
         next_is = λ told. (finds told).0 ∙ ap (λ (t : Table). length t.log + 1) (sym (stays told asked.at));
         hops_is = refl;
         rest = only_read;
@@ -326,6 +340,7 @@ module _ (tells : Bool) (s : Settings) (asked : AskedStream) (old between new : 
       → StreamsOver tells s asked (Err refusal) (world old before link) (world between mid link)
   refuses_read (Store (KeeperFault count)) asks = (asks.0, asks.1, unread)
   refuses_read (Memory position) asks = (asks, unread)
+  refuses_read (Store (TooOld cut position)) asks = absurd asks
   refuses_read (Store (SeqReused position)) asks = absurd asks
   refuses_read (Store (ShardFull serial)) asks = absurd asks
   refuses_read (Store (StampFull number)) asks = absurd asks
@@ -357,6 +372,7 @@ module _ (tells : Bool) (s : Settings) (asked : AskedStream) (old between new : 
       (fails.0, Rose-earlier before.faults mid.faults after.faults later.faults fails.1, at_nothing fails.2)
   refuses_entry (Store (LinkFault count when)) later fails = (fails.0, fails.1, fails.2, unchanged fails.3)
   refuses_entry (Memory position) later fails = (fails.0, at_nothing fails.1)
+  refuses_entry (Store (TooOld cut position)) later fails = absurd fails
   refuses_entry (Store (SeqReused position)) later fails = absurd fails
   refuses_entry (Store (ShardFull serial)) later fails = absurd fails
   refuses_entry (Store (StampFull number)) later fails = absurd fails

@@ -59,6 +59,7 @@ module _ (tells : Bool) (s : Settings) (route : Route) (call : AuthoredWrite) (o
       → RefusesCommit tells s (sent_write route call) (refused_as new.keepers.faults r) old new
   refused store.KeeperFault answer cause = ((refl, cause refl), same)
   refused store.OutOfMemory answer cause = (refl, same)
+  refused (store.TooOld cut position) answer cause = (answer, same)
   refused (store.SeqReused position) answer cause = (answer, same)
   refused (store.ShardFull serial) answer cause = (answer, same)
   refused (store.StampFull number) answer cause = (answer, same)

@@ -7,7 +7,7 @@ use Rattle.graph_model.specs.Told.{WhereTold}
 use Rattle.replies.specs.declared.calls.ScheduledWhy.{ScheduledWhy}
 use Rattle.replies.specs.declared.calls.ScheduledWhy.TheVariants as why
 use Rattle.shard_tables.specs.declared.refusal.StoreRefusal.{StoreRefusal}
-use Rattle.shard_tables.specs.declared.refusal.StoreRefusal.TheVariants.{KeeperFault, LogFull, ShardFull, StampFull, SeqReused, OutOfMemory}
+use Rattle.shard_tables.specs.declared.refusal.StoreRefusal.TheVariants.{KeeperFault, LogFull, ShardFull, StampFull, SeqReused, TooOld, OutOfMemory}
 use Rattle.shard_tables.specs.declared.writes.Wrote.{Wrote}
 use Rattle.tao_keeper.specs.KeeperState.{KeeperState}
 use Rattle.tao_link.specs.declared.link.LinkFailed.{LinkFailed}
@@ -20,6 +20,7 @@ abbrev pub RefusesMerge : Bool → Settings → ShardJob → StoreRefusal → Ke
 RefusesMerge tells s j KeeperFault old new = Rose old.faults new.faults
 RefusesMerge tells s j (LogFull count) old new = WhereTold tells (FindsNoRoom s j count old)
 RefusesMerge tells s j OutOfMemory old new = ⊤
+RefusesMerge tells s j (TooOld cut at) old new = ⊥
 RefusesMerge tells s j (SeqReused at) old new = ⊥
 RefusesMerge tells s j (ShardFull serial) old new = ⊥
 RefusesMerge tells s j (StampFull number) old new = ⊥

@@ -1,11 +1,11 @@
 -- A step of a stream over a link: which entry is carried, and what the slave region's store and its nodes take of it.
-use Rattle.std.specs.Prelude.{ℕ, ◌≡◌, ◌+◌, ◌⊎◌, Bool, Option, Some, None, Result, Ok, Err, MatchBool}
+use Rattle.std.specs.Prelude.{ℕ, ◌≡◌, ◌+◌, ◌⊎◌, Bool, IsSome, Option, Some, None, Result, Ok, Err, MatchBool}
 use Rattle.counts.specs.Count.{Rose}
 use Rattle.core_mail.specs.Inboxes.{Sends, entry_message}
 use Rattle.core_model.specs.Fleet.{ChangesNode, Fleet}
 use Rattle.core_model.specs.Messages.{Delivers, notified_of}
 use Rattle.core_model.specs.Pens.{Pens}
-use Rattle.core_nodes.specs.Streams.{HasAll, IsToCarry, LacksEntry, StreamsTo, next_position}
+use Rattle.core_nodes.specs.Streams.{HasAll, IsOldThere, IsToCarry, LacksEntry, StreamsTo, next_position}
 use Rattle.graph_model.specs.Told.{WhereTold}
 use Rattle.maint_msg.specs.Maints.{SeenMaint}
 use Rattle.node_name.specs.declared.NodeName.{NodeName}
@@ -22,6 +22,7 @@ use Rattle.shard_log.specs.View.{View, as_note}
 use Rattle.tao_base.specs.declared.entry.Entry.{Entry}
 use Rattle.tao_base.specs.declared.id.StoreName.{StoreName}
 use Rattle.tao_keeper.specs.KeeperState.{KeepsTables}
+use Rattle.tao_keeper.specs.Table.{Tables}
 use Rattle.tao_link.specs.Shown.{after_carry}
 use Rattle.topology.specs.Choices.{preferred_leader}
 use Rattle.topology.specs.Config.{Settings}
@@ -126,10 +127,16 @@ pub record OnlyReadsKeepers (tells : Bool) (old new : World) : Type 0 where
   pub rest : new ≡ record old { keepers = new.keepers }
   pub tables : KeepsTables tells old.keepers new.keepers
 
--- the store has all of its shard's log, and nothing was carried
+-- why nothing is carried: the store has all of its shard's log, or the entry that is asked for is an old one
+abbrev pub NeedsNoCarry : Bool → Settings → AskedStream → StreamVerdict → Tables → Type 0
+NeedsNoCarry tells s asked verdict.None tables = WhereTold tells (HasAll s tables asked.at asked.position)
+NeedsNoCarry tells s asked verdict.Old tables = IsSome asked.position × WhereTold tells (IsOldThere s tables asked.at.shard asked.position)
+NeedsNoCarry tells s asked verdict.Applied tables = ⊥
+NeedsNoCarry tells s asked verdict.Gap tables = ⊥
+
+-- nothing was carried, for this reason
 pub record StreamsNothing (tells : Bool) (s : Settings) (asked : AskedStream) (streamed : Streamed) (old new : World) : Type 0 where
-  pub verdict_is : streamed.verdict ≡ verdict.None
-  pub has_all : WhereTold tells (HasAll s old.keepers.told asked.at asked.position)
+  pub why : NeedsNoCarry tells s asked streamed.verdict old.keepers.told
   pub next_is : WhereTold tells (streamed.next ≡ next_position new.keepers.told asked.at)
   pub hops_is : streamed.hops ≡ 0
   pub rest : OnlyReadsKeepers tells old new

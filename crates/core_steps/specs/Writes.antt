@@ -11,7 +11,7 @@ use Rattle.graph_model.specs.Told.{WhereTold}
 use Rattle.replies.specs.declared.refusals.Refusal.{Refusal}
 use Rattle.replies.specs.declared.refusals.Refusal.TheVariants.{Store, Memory}
 use Rattle.replies.specs.declared.refusals.StoreRefused.{StoreRefused}
-use Rattle.replies.specs.declared.refusals.StoreRefused.TheVariants.{SeqReused, ShardFull, StampFull, LogFull, KeeperFault, LinkFault, Unsettled}
+use Rattle.replies.specs.declared.refusals.StoreRefused.TheVariants.{SeqReused, TooOld, ShardFull, StampFull, LogFull, KeeperFault, LinkFault, Unsettled}
 use Rattle.replies.specs.declared.refusals.When.{When}
 use Rattle.replies.specs.declared.refusals.When.TheVariants.{Before}
 use Rattle.shard_log.specs.View.{View}
@@ -19,7 +19,7 @@ use Rattle.shard_tables.specs.Jobs.{FindsJob, OpensJob, job_with}
 use Rattle.shard_tables.specs.StoreView.{Store as StoreSeen}
 use Rattle.shard_tables.specs.WriteSteps.{client_write}
 use Rattle.shard_tables.specs.declared.writes.Wrote.{Wrote}
-use Rattle.shard_tables.specs.Written.{AnswersAs, AskedWrite, HasEntry, LiesOn, IsLogFull, IsReused, IsShardFull, IsStampFull, TableGains}
+use Rattle.shard_tables.specs.Written.{AnswersAs, AskedWrite, HasEntry, LiesOn, IsLogFull, IsReused, IsTooOld, IsShardFull, IsStampFull, TableGains}
 use Rattle.tao_base.specs.EdgeTypes.{EdgeTypes}
 use Rattle.tao_base.specs.Writes.{write_shard}
 use Rattle.tao_base.specs.declared.entry.Entry.{Entry}
@@ -131,6 +131,7 @@ pub record CanBeApplied (call : AuthoredWrite) (wrote : Wrote) (stores : List St
 
 -- the store refused it: by the log, or for a fault that came now. Nothing changed
 abbrev pub StoreRefuses : Bool → AskedWrite → StoreRefused → KeeperState → KeeperState → Type 0
+StoreRefuses tells asked (TooOld cut position) old new = WhereTold tells (IsTooOld asked cut position)
 StoreRefuses tells asked (SeqReused position) old new = WhereTold tells (IsReused asked position)
 StoreRefuses tells asked (ShardFull serial) old new = WhereTold tells (IsShardFull asked serial)
 StoreRefuses tells asked (StampFull number) old new = WhereTold tells (IsStampFull asked number)

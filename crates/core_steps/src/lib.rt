@@ -23,8 +23,8 @@
 //!
 //! A step of a stream carries one entry from the shard's master store to the store of a slave region, which takes it exactly
 //! where it comes next; then the leader that the region prefers processes it, where that is up, and the region's followers
-//! that serve the shard and are up are told. Where the store has all of the log nothing is carried, and after a refusal no
-//! node, message or table has changed.
+//! that serve the shard and are up are told. Where the store has all of the log, or an old entry is asked for, nothing is
+//! carried, and after a refusal no node, message or table has changed.
 //!
 //! The contracts that say so: `Nodes::ask_over`, `read_over`, `pass_with_note`, `commit_over`, `master_leader`, `merge_over`, `end_over`,
 //! `relay_over`, `apply_over`, `stream_over`, `notify_followers`, `notify_besides`; `AnswersThere`, `IsGivenOver`, `IsNotGiven`, `IsReadOver`,

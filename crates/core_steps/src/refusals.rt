@@ -17,6 +17,7 @@ pub fn refused_as(refusal: StoreRefusal, faults: u64) -> Refusal
     ensures { result ≡ refused_as faults refusal }
 {
     let refused = match refusal {
+        StoreRefusal::TooOld { cut, position } => StoreRefused::TooOld { cut, position },
         StoreRefusal::SeqReused { position } => StoreRefused::SeqReused { position },
         StoreRefusal::ShardFull { serial } => StoreRefused::ShardFull { serial },
         StoreRefusal::StampFull { number } => StoreRefused::StampFull { number },

@@ -327,7 +327,7 @@ impl Nodes {
     /// A step of the stream into a slave's store: the entry of the shard's log at the position that is given, or else the one that the store takes next, is
     /// carried from the master's store to it. Where it comes next the store takes it, and in the same step the leader that the region prefers for
     /// the shard processes it, where that is up, and the followers of the region that serve the shard and are up are sent a message. Where the store has
-    /// all of its shard's log, nothing is carried.
+    /// all of its shard's log, or the entry at the position is an old one, nothing is carried.
     ///
     /// Refused where the log has no entry at the position, where a keeper or the carry failed, and its count rose, or where memory was wanting: then no
     /// node and no table has changed. Costs at most four calls of the keepers.
@@ -355,6 +355,11 @@ impl Nodes {
                     verdict,
                 })
             }
+            NextEntry::Old { next } => Ok(Streamed {
+                hops: 0,
+                next,
+                verdict: StreamVerdict::Old,
+            }),
             NextEntry::Nothing { next } => Ok(Streamed {
                 hops: 0,
                 next,

@@ -49,7 +49,8 @@ returns g c =
       does = λ link. record { job = job; answered = answered; result = result; ends = ends link; then = then };
       write = taken_on tells s later end.self.fleet p c.take.new.self (came.End result) 0 then
           (ended_on tells s later end.self.fleet p job result (Old no_carries) (New no_carries)
-          (write_later tells s (state c.args.keepers.now).told later c.args.nodes.now.fleet end.self.fleet p over.consistent goes over.grows c.requires.write)
+          (write_later tells s (state c.args.keepers.now).told later c.args.nodes.now.fleet end.self.fleet p over.consistent goes over.grows.on
+          c.requires.write)
           answered (ends no_carries));
       same = over.same;
       consistent = over.consistent;

@@ -82,6 +82,22 @@ returns-in_err-wrote-clause-repairs g c =
     c.find_job.ensures.later in
     rw p.1 (subst (λ f. IsNotRepaired tells s c.args.shard f old new) (sym p.2) fails)
 
+pub returns-in_err-wrote-clause-on : goal.returns-in_err-wrote-clause-on
+returns-in_err-wrote-clause-on g c =
+    let tells = g.K.Keeper.TELLS in
+    let s = c.args.config.now in
+    let was = c.args.nodes.now in
+    let before = g.K.Keeper.state c.args.keepers.now in
+    let found = g.K.Keeper.state c.find_job.new.keepers in
+    let link = g.L.Link.shown c.args.link.now in
+    let finds = c.find_job.ensures in
+    let same = c.note_before.ensures.same in
+    let ran = c.merge_and_end in
+    posts_trans tells s (world was before link) (world_with c.note_before.new.fleet was.mail was.topology found link)
+    (world ran.new.nodes (g.K.Keeper.state ran.new.keepers) (g.L.Link.shown ran.new.link))
+    (posts_asked tells s was before found c.note_before.new.fleet link c.requires.ready (same ∙ finds.same) finds.tables
+    (subst (IsConsistent tells s found.told) (sym same) finds.consistent) finds.later) ran.ensures.on
+
 pub returns-clause-on : goal.returns-clause-on
 returns-clause-on g c =
     let tells = g.K.Keeper.TELLS in

@@ -4,7 +4,7 @@ use Rattle.graph_model.specs.Told.{WhereTold}
 use Rattle.replies.specs.declared.nodes.Streamed.{Streamed}
 use Rattle.core_nodes.specs.Streams.{FindsNext}
 use Rattle.core_nodes.specs.declared.streams.NextEntry.{NextEntry}
-use Rattle.core_steps.proofs.PostsLemmas.{can_post_on}
+use Rattle.core_steps.proofs.PostsLemmas.{can_post_on, posts_trans}
 use Rattle.core_steps.proofs.StreamSteps.{reads_post, refuses_entry, streamed_entry}
 use Rattle.core_steps.specs.Streams.{StreamsOver}
 use Rattle.core_steps.specs.World.{World, world}
@@ -19,6 +19,13 @@ returns-in_err-entry-clause-on g c =
 
 pub returns-in-Nothing-clause-on : goal.returns-in-Nothing-clause-on
 returns-in-Nothing-clause-on g c =
+    let state = g.K.Keeper.state in
+    let read = c.stream_next.ensures in
+    reads_post g.K.Keeper.TELLS c.args.config.now c.args.self.now c.stream_next.new.self (state c.args.keepers.now) (state c.stream_next.new.keepers)
+    (g.L.Link.shown c.args.link.now) c.requires.ready read.same read.tables read.consistent read.later
+
+pub returns-in-Old-clause-on : goal.returns-in-Old-clause-on
+returns-in-Old-clause-on g c =
     let state = g.K.Keeper.state in
     let read = c.stream_next.ensures in
     reads_post g.K.Keeper.TELLS c.args.config.now c.args.self.now c.stream_next.new.self (state c.args.keepers.now) (state c.stream_next.new.keepers)
@@ -73,3 +80,17 @@ returns-in_ok-verdict-in-Found-clause-streams g c =
     streamed_entry tells s c.args.asked c.args.self.now c.stream_next.new.self end.self (state c.args.keepers.now) (state c.stream_next.new.keepers)
     (state end.keepers) (shown c.args.link.now) (shown end.link) read.same read.tables said c.in-Found.entry c.in-Found.next streamed finds
     c.in_ok-verdict-in-Found.ensures.takes (ap (λ n. record { hops = 1; next = n; verdict = said }) c.next_after.ensures)
+
+pub returns-in_ok-verdict-in-Found-clause-on : goal.returns-in_ok-verdict-in-Found-clause-on
+returns-in_ok-verdict-in-Found-clause-on g c =
+    let tells = g.K.Keeper.TELLS in
+    let state = g.K.Keeper.state in
+    let read = c.stream_next.ensures in
+    let link = g.L.Link.shown c.args.link.now in
+    let end = c.stream_entry.new in
+    let old : World = world c.args.self.now (state c.args.keepers.now) link in
+    let mid : World = world c.stream_next.new.self (state c.stream_next.new.keepers) link in
+    let new : World = world end.self (state end.keepers) (g.L.Link.shown end.link) in
+    posts_trans tells c.args.config.now old mid new
+    (reads_post tells c.args.config.now c.args.self.now c.stream_next.new.self (state c.args.keepers.now) (state c.stream_next.new.keepers)
+    link c.requires.ready read.same read.tables read.consistent read.later) c.in_ok-verdict-in-Found.ensures.on

@@ -33,7 +33,7 @@ use Rattle.tao_core.proofs.StayOpen.{StayOpen}
 use Rattle.tao_core.proofs.LearningReads.{ReachesEnd, reader_later, step_reaches}
 use Rattle.tao_core.proofs.HeldOn.{none_come}
 use Rattle.tao_core.proofs.HeldSteps.{MayHold, held_after, kept, kept_may, steps_asks}
-use Rattle.tao_core.proofs.NamesOnce.{stand_alone}
+use Rattle.core_model.proofs.NamesOnce.{stand_alone}
 use Rattle.tao_core.proofs.Reaching.{held_reaches}
 use Rattle.tao_core.specs.Calls.{world_at}
 use Rattle.topology.specs.States.{NodeStates}
@@ -176,7 +176,8 @@ module _ (tells : Bool) (core : CoreState) (end : Nodes) (before now : KeeperSta
   New = world end now to
 
   is_mid : IsConsistentCore tells now.told Mid
-  is_mid = stepped_core tells before.told now.told core end core.plans of on.states on.consistent on.inboxes on.arrived on.goes on.grows
+  is_mid = stepped_core tells before.told now.told core end core.plans of on.states on.consistent on.inboxes on.arrived on.goes
+      on.grows.on.logs
 
   -- where a read is answered its key has come to the version
   carried_comes : ReachesEnd tells core.settings now.told after

@@ -35,7 +35,7 @@ use Rattle.request_check.specs.Placed.{IsPlacedNode}
 use Rattle.request_check.specs.declared.health.LeaderPlace.{LeaderPlace}
 use Rattle.shard_tables.specs.Refusals.{IsOfReads}
 use Rattle.shard_tables.specs.declared.refusal.StoreRefusal.{StoreRefusal}
-use Rattle.shard_tables.specs.declared.refusal.StoreRefusal.TheVariants.{KeeperFault, OutOfMemory, LogFull, ShardFull, StampFull, SeqReused}
+use Rattle.shard_tables.specs.declared.refusal.StoreRefusal.TheVariants.{KeeperFault, OutOfMemory, LogFull, ShardFull, StampFull, SeqReused, TooOld}
 use Rattle.tao_keeper.proofs.Growing.{growing_laws}
 use Rattle.tao_keeper.proofs.Later.{later_self}
 use Rattle.tao_keeper.specs.KeeperState.{IsLater, KeeperState, KeepsTables}
@@ -54,7 +54,7 @@ use Rattle.tao_core.proofs.Arriving.{empties_reach}
 use Rattle.tao_core.proofs.Delivering.{of_region}
 use Rattle.tao_core.proofs.HeldOn.{comes_not, core_goes_on, core_unchanged, same_held}
 use Rattle.tao_core.proofs.Keeping.{core_stays, going_core, nodes_core, with_states}
-use Rattle.tao_core.proofs.NamesOnce.{StandAlone, follows_none, leaders_alone, leads_none, stand_alone}
+use Rattle.core_model.proofs.NamesOnce.{StandAlone, follows_none, leaders_alone, leads_none, stand_alone}
 use Rattle.tao_core.proofs.StayOpen.{same_open}
 
 -- ---- the node is one of the configuration
@@ -158,7 +158,7 @@ emptied_stores (StoreName_ store) pens at old new empties = absurd empties
 emptied_stores (Leader region index) pens at old new empties = ap (λ (f : Fleet). f.stores) empties.1
 emptied_stores (Follower region tier index) pens at old new empties = ap (λ (f : Fleet). f.stores) empties.1
 
-emptied_opens : (node : NodeName) (pens : Pens) (at : Anew) (old new : Fleet) → EmptiesCache node pens at old new → OpensNone old.followers new.followers
+pub emptied_opens : (node : NodeName) (pens : Pens) (at : Anew) (old new : Fleet) → EmptiesCache node pens at old new → OpensNone old.followers new.followers
 emptied_opens (StoreName_ store) pens at old new empties = absurd empties
 emptied_opens (Leader region index) pens at old new empties = same_opens_none old.followers new.followers (ap (λ (f : Fleet). f.followers) empties.1)
 emptied_opens (Follower region tier index) pens at old new empties =
@@ -328,15 +328,16 @@ module _ (tells : Bool) (node : NodeName) (core seen : CoreState) (own : core �
           later = later;
         }) refl refl (same_open seen.sessions seen.sessions refl))
 
--- why it stays down
-pub come_fails : {T : Type 0} (r : StoreRefusal) (before now : KeeperState) → IsOfReads r
+-- how it is refused where a keeper was asked
+pub fails_to_ask : {T : Type 0} (r : StoreRefusal) (before now : KeeperState) → IsOfReads r
     → (IsErrOf {T = T} (Err r) KeeperFault → Rose before.faults now.faults) → AskFails (refused_as now.faults r) before now
-come_fails KeeperFault before now of rose = (refl, rose refl)
-come_fails OutOfMemory before now of rose = refl
-come_fails (LogFull length) before now of rose = absurd of
-come_fails (ShardFull length) before now of rose = absurd of
-come_fails (StampFull number) before now of rose = absurd of
-come_fails (SeqReused position) before now of rose = absurd of
+fails_to_ask KeeperFault before now of rose = (refl, rose refl)
+fails_to_ask OutOfMemory before now of rose = refl
+fails_to_ask (LogFull length) before now of rose = absurd of
+fails_to_ask (ShardFull length) before now of rose = absurd of
+fails_to_ask (StampFull number) before now of rose = absurd of
+fails_to_ask (TooOld cut position) before now of rose = absurd of
+fails_to_ask (SeqReused position) before now of rose = absurd of
 
 -- ---- suspect and trust
 

@@ -132,10 +132,11 @@ module _ (tells : Bool) (keepers : KeeperState) (core : CoreState) (of : IsConsi
       → AddsPlan number plan core.plans added → IsCoreOf tells keepers.told (record core { plans = added })
   begun_core number added core_of free adds = record {
     is_consistent = with_plans tells keepers.told core added of;
+    past = core_of.past;
     plans = plans_set tells core.settings keepers.told keepers.told core.fleet core.fleet number None (Some plan) core.plans added core_of.plans free adds.sets
         (so_begun (λ p. StepsAsks None (Some p) core.fleet.followers core.fleet.followers)
         (begun_steps core.settings begun.session begun.follower asked core.fleet.followers)) (goes_self core.fleet)
-        (stays_stores tells core.settings keepers keepers (λ told at. refl)) of.consistent
+        (stays_stores tells core.settings keepers keepers (λ told at. refl)).on of.consistent
         (λ other same.
         subst (λ x. IsUnderWay tells core.settings keepers.told core.fleet x × IsSome (next_stage x)) (one_some plan other same)
         (is_under_way, goes_first));

@@ -4,9 +4,10 @@ use Rattle.std.specs.Prelude.{◌==◌, All, IfSome, IsSome, if◌then◌else◌
 use Rattle.std.proofs.lemmas.Bool.{cases_Bool, eq-eqb, eqb-true}
 use Rattle.core_mail.specs.Inboxes.{AreInboxesOf, HaveArrived}
 use Rattle.core_model.specs.Consistent.{GoesOn, IsConsistent}
+use Rattle.core_model.specs.Cuts.{ArePastCuts}
 use Rattle.core_model.specs.Fleet.{Fleet, HasAsk}
 use Rattle.core_model.specs.Stores.{HaveMasterRegions}
-use Rattle.core_model.specs.Growing.{StoresGrow}
+use Rattle.core_model.specs.Growing.{StoresGrow, TablesGoOn}
 use Rattle.core_model.specs.Pens.{Pens, pens_of}
 use Rattle.core_model.proofs.Places.{one_some}
 use Rattle.core_nodes.specs.Settling.{IsLaterLink}
@@ -39,6 +40,7 @@ use Rattle.replies.specs.declared.reply.Reply.{Reply}
 use Rattle.replies.specs.declared.reply.Reply.TheVariants as replied
 use Rattle.tao_base.specs.Queries.{query_key}
 use Rattle.tao_base.specs.declared.id.Key.{Key}
+use Rattle.tao_keeper.specs.Growing.{LogsGrow}
 use Rattle.tao_keeper.specs.KeeperState.{KeeperState}
 use Rattle.tao_keeper.specs.Table.{Tables}
 use Rattle.tao_link.specs.Shown.{LinkShown}
@@ -49,9 +51,10 @@ use Rattle.tao_core.specs.Core.{CoreState, IsConsistentCore, IsCoreOf, IsOfSessi
 use Rattle.tao_core.specs.HeldCalls.{AdvancesPlan, DoesStage, EndsPlan, Leaves, LearnsOf, StepsAt, held_seen, held_in, next_at, numbered_plan}
 use Rattle.tao_core.proofs.HeldLearning.{advance_comes, author_advances, learns_ours, of_session_still}
 use Rattle.tao_core.proofs.HeldSteps.{MayHold, StepsAsks, advance_asks, held_after, kept}
+use Rattle.tao_core.proofs.Keeping.{still_past}
 use Rattle.tao_core.proofs.LearningReads.{ReachesEnd}
 use Rattle.tao_core.proofs.Reaching.{advance_reaches}
-use Rattle.tao_core.proofs.NamesOnce.{stand_alone}
+use Rattle.core_model.proofs.NamesOnce.{stand_alone}
 use Rattle.tao_core.proofs.Told.{sessions_later}
 use Rattle.core_model.specs.States.{AreStatesOf}
 
@@ -135,7 +138,7 @@ module _ (tells : Bool) (s : Settings) (before later : Tables) (f g : Fleet) (nu
     may_first : (plan : HeldPlan) → held ≡ Some plan → OpensFirst plan
     may_first plan is = subst MayHold is steps.may
 
-    pub plans_set : GoesOn f g → StoresGrow tells s before later → IsConsistent tells s later g
+    pub plans_set : GoesOn f g → TablesGoOn tells s before later → IsConsistent tells s later g
         → ((plan : HeldPlan) → held ≡ Some plan → IsUnderWay tells s later g plan × IsSome (next_stage plan)) → ArePlansOf tells s later g new
     plans_set goes grows consistent can = record {
       under_way = each (IsUnderWay tells s later g) (λ plan is. (can plan is).0)
@@ -187,7 +190,7 @@ with_sessions tells tables core plans sessions of all = record {
 pub stepped_core : (tells : Bool) (tables later : Tables) (core : CoreState) (end : Nodes) (plans : Plans)
     → IsConsistentCore tells tables core → end.topology ≡ core.states → IsConsistent tells core.settings later end.fleet
     → AreInboxesOf core.settings (pens_of end.fleet.stores) end.mail
-    → WhereTold tells (HaveArrived later end.mail) → GoesOn core.fleet end.fleet → StoresGrow tells core.settings tables later
+    → WhereTold tells (HaveArrived later end.mail) → GoesOn core.fleet end.fleet → LogsGrow tells tables later
     → IsConsistentCore tells later (record core { fleet = end.fleet; mail = end.mail; states = end.topology; plans = plans })
 stepped_core tells tables later core end plans of same consistent inboxes arrived goes grows = record {
   masters = of.masters;
@@ -195,7 +198,7 @@ stepped_core tells tables later core end plans of same consistent inboxes arrive
   states = subst (AreStatesOf core.settings) (sym same) of.states;
   mail = inboxes;
   arrived = arrived;
-  sessions = sessions_later tells core.settings tables later (pens_of core.fleet.stores) (pens_of end.fleet.stores) core.sessions grows.logs goes.rise
+  sessions = sessions_later tells core.settings tables later (pens_of core.fleet.stores) (pens_of end.fleet.stores) core.sessions grows goes.rise
       of.sessions;
 }
 
@@ -242,7 +245,7 @@ module _ (tells : Bool) (number : ℕ) (old mid : Moment) (does : DoesStage tell
 
     -- what is held then, where the plan stays or goes
     pub held_then : (next : Option Stage) (plans : Plans) (later : Tables) → next_stage After ≡ next → SetsPlan number (kept next After) old.core.plans plans
-        → GoesOn old.core.fleet mid.core.fleet → StoresGrow tells old.core.settings old.keepers.told later
+        → GoesOn old.core.fleet mid.core.fleet → TablesGoOn tells old.core.settings old.keepers.told later
         → IsConsistent tells old.core.settings later mid.core.fleet
         → IfSome (plan_at mid.core.plans number) (IsUnderWay tells old.core.settings later mid.core.fleet)
         → ArePlansOf tells old.core.settings later mid.core.fleet plans
@@ -251,6 +254,13 @@ module _ (tells : Bool) (number : ℕ) (old mid : Moment) (does : DoesStage tell
         old.core.plans plans of.plans does.steps.stands sets
         (subst (λ n. StepsAsks (Some does.steps.before) (kept n After) old.core.fleet.followers mid.core.fleet.followers) is asks_of) goes grows consistent
         (can_after next later is under)
+
+    -- no node lies behind a cut then
+    past_then : GoesOn old.core.fleet mid.core.fleet → StoresGrow tells old.core.settings old.keepers.told mid.keepers.told
+        → WhereTold tells (ArePastCuts mid.keepers.told mid.core.fleet)
+    past_then goes grows =
+        still_past tells old.core.settings old.keepers.told mid.keepers.told old.core.fleet mid.core.fleet of.is_consistent.masters
+        of.is_consistent.consistent goes grows of.past
 
     author_after : IsOfSession old.core.sessions After
     author_after =
@@ -272,8 +282,10 @@ module _ (tells : Bool) (number : ℕ) (old mid : Moment) (does : DoesStage tell
         → IsCoreOf tells mid.keepers.told mid.core
     next_core stage next is own same goes grows under = record {
       is_consistent = is;
+      past = past_then goes grows;
       plans = subst (λ s. ArePlansOf tells s mid.keepers.told mid.core.fleet mid.core.plans) (sym own)
-          (held_then (Some stage) mid.core.plans mid.keepers.told (sym next_is ∙ next) does.steps.changes.sets goes grows (consistent_here is own) under);
+          (held_then (Some stage) mid.core.plans mid.keepers.told (sym next_is ∙ next) does.steps.changes.sets goes grows.on (consistent_here is own)
+          under);
       authors = author_held mid.core.sessions (sym same);
     }
 
@@ -326,8 +338,9 @@ module _ (tells : Bool) (number : ℕ) (old mid : Moment) (does : DoesStage tell
         → IsCoreOf tells mid.keepers.told (record mid.core { plans = later; sessions = sessions })
     ends_core of is own same goes grows under = record {
       is_consistent = with_sessions tells mid.keepers.told mid.core later sessions is (learnt_core is own same under);
+      past = past_then of goes grows;
       plans = subst (λ s. ArePlansOf tells s mid.keepers.told mid.core.fleet later) (sym own)
-          (held_then of None later mid.keepers.told is_over gone goes grows (consistent_here is own) under);
+          (held_then of None later mid.keepers.told is_over gone goes grows.on (consistent_here is own) under);
       authors = set_each number None mid.core.plans later (IsOfSession sessions) ends_after.takes.sets (λ one is. absurd (cc))
           (λ other plan there. of_session_still NewPens After ends_after.ended old.core.sessions sessions plan ends_after.learns
           (author_held of old.core.sessions refl other plan there));

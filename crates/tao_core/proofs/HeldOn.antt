@@ -4,7 +4,7 @@ use Rattle.std.proofs.lemmas.Option.{IfSome_then}
 use Rattle.core_model.specs.Consistent.{IsConsistent}
 use Rattle.core_model.specs.Evictions.{ChangesCache, Evicts}
 use Rattle.core_model.specs.Fleet.{Fleet}
-use Rattle.core_model.specs.Growing.{StoresGrow}
+use Rattle.core_model.specs.Growing.{TablesGoOn}
 use Rattle.core_model.specs.Messages.{DeliversAt}
 use Rattle.core_model.specs.States.{ComesUp}
 use Rattle.core_nodes.proofs.FleetLemmas.{goes_self}
@@ -26,6 +26,7 @@ use Rattle.tao_keeper.specs.Table.{Tables}
 use Rattle.topology.specs.Config.{Settings}
 use Rattle.topology.specs.States.{NodeStates, is_up}
 use Rattle.tao_core.specs.Core.{ComeUp, CoreState, IsConsistentCore, IsCoreOf, IsOfSession, LeavesCore, StaysHeld, StaysUsable, author}
+use Rattle.tao_core.proofs.Keeping.{still_past}
 use Rattle.tao_core.proofs.StayOpen.{StayOpen, same_open}
 use Rattle.core_sessions.specs.Sessions.{Session}
 
@@ -46,7 +47,7 @@ none_come tells tables old new same told = record {
 
 -- ---- what is held
 
-plans_later : (tells : Bool) (s : Settings) (before later : Tables) (f g : Fleet) (plans : Plans) → StaysHeld f g → StoresGrow tells s before later
+pub plans_later : (tells : Bool) (s : Settings) (before later : Tables) (f g : Fleet) (plans : Plans) → StaysHeld f g → TablesGoOn tells s before later
     → IsConsistent tells s later g → ArePlansOf tells s before f plans → ArePlansOf tells s later g plans
 plans_later tells s before later f g plans on grows consistent are = record {
   under_way = λ number plan at. plan_later tells s before later f g plan consistent on.goes grows (are.under_way number plan at);
@@ -67,16 +68,18 @@ core_goes_on tells before now old new of leaves own same stay = record {
   settings = own;
   keepers = record {
     is_consistent = leaves.is_consistent;
+    past = still_past tells old.settings before.told now.told old.fleet new.fleet of.is_consistent.masters of.is_consistent.consistent leaves.on.goes
+        leaves.grows of.past;
     plans = subst (λ s. ArePlansOf tells s now.told new.fleet new.plans) (sym own)
         (subst (ArePlansOf tells old.settings now.told new.fleet) (sym same)
-        (plans_later tells old.settings before.told now.told old.fleet new.fleet old.plans leaves.on leaves.grows
+        (plans_later tells old.settings before.told now.told old.fleet new.fleet old.plans leaves.on leaves.grows.on
         (subst (λ s. IsConsistent tells s now.told new.fleet) own leaves.is_consistent.consistent) of.plans));
     authors = λ number plan at. still_of old.sessions new.sessions plan stay
         (of.authors number plan (subst (λ plans. plan_at plans number ≡ Some plan) same at));
   };
   goes = leaves.on.goes;
   comes = leaves.comes;
-  grows = leaves.grows;
+  grows = leaves.grows.on;
   later = leaves.later;
 }
 
@@ -95,7 +98,7 @@ core_unchanged tells keepers core of = record {
   keepers = of;
   goes = goes_self core.fleet;
   comes = none_come tells keepers.told core core refl;
-  grows = stays_stores tells core.settings keepers keepers (λ told at. refl);
+  grows = (stays_stores tells core.settings keepers keepers (λ told at. refl)).on;
   later = later_self keepers;
 }
 

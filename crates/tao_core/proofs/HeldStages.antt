@@ -113,7 +113,7 @@ module _ (tells : Bool) (number : ℕ) (core seen : CoreState) (own : core ≡ s
 
   is_mid : IsConsistentCore tells now.told Mid
   is_mid = stepped_core tells before.told now.told core end plans of.is_consistent posts.states posts.consistent posts.inboxes posts.arrived posts.goes
-      posts.grows
+      posts.grows.on.logs
 
   own_rest : Mid ≡ record core { fleet = end.fleet; mail = end.mail; plans = plans }
   own_rest = ap (λ (n : NodeStates). record Mid { states = n }) posts.states
@@ -132,7 +132,7 @@ module _ (tells : Bool) (number : ℕ) (core seen : CoreState) (own : core ≡ s
           keepers = is;
           goes = posts.goes;
           comes = none_come tells now.told core (record Mid { plans = later; sessions = learnt }) posts.states;
-          grows = posts.grows;
+          grows = posts.grows.on;
           later = posts.later;
         };
       })

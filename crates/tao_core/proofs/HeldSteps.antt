@@ -53,7 +53,7 @@ use Rattle.write_plan.specs.Plans.{Writing, next_of, stage_from}
 use Rattle.write_plan.specs.Stages.{stage_said}
 use Rattle.write_plan.specs.declared.stage.WriteStage.{WriteStage}
 use Rattle.write_plan.specs.declared.stage.WriteStage.TheVariants.{Commit, Inverse, End, Relay, Apply, Done}
-use Rattle.tao_core.proofs.NamesOnce.{StandAlone}
+use Rattle.core_model.proofs.NamesOnce.{StandAlone}
 use Rattle.tao_core.proofs.WriteStages.{applied_over, end_keeps, inverse_keeps}
 use Rattle.replies.specs.declared.refusals.Refusal.{Refusal}
 use Rattle.core_steps.specs.ReadSteps.{IsNotGiven, IsNotRead}

@@ -4,11 +4,14 @@ use Rattle.std.specs.Prelude.{All, Option}
 use Rattle.cache_items.specs.Node.{Node}
 use Rattle.core_mail.proofs.InboxLemmas.{inboxes_stay}
 use Rattle.core_mail.specs.Inboxes.{AreInboxesOf, HaveArrived, Inboxes}
+use Rattle.core_model.proofs.PastCuts.{nodes_stay_past_cuts}
 use Rattle.core_model.specs.Consistent.{GoesOn, IsConsistent, IsFleetOf}
+use Rattle.core_model.specs.Cuts.{ArePastCuts}
 use Rattle.core_model.specs.Evictions.{ChangesCache, Evicts}
 use Rattle.core_model.specs.Fleet.{Fleet}
+use Rattle.core_model.specs.Growing.{StoresGrow}
 use Rattle.core_model.specs.Pens.{AreFirstNotes, pens_of}
-use Rattle.core_model.specs.Stores.{AreStoresOf}
+use Rattle.core_model.specs.Stores.{AreStoresOf, HaveMasterRegions}
 use Rattle.core_nodes.proofs.AskLemmas.{still_consistent}
 use Rattle.core_nodes.proofs.FleetLemmas.{goes_self}
 use Rattle.core_sessions.specs.Sessions.{Session, new_session, with_session}
@@ -35,6 +38,7 @@ use Rattle.tao_core.proofs.Arriving.{HaveCome, evicted_reach}
 use Rattle.tao_core.proofs.Told.{sessions_later}
 use Rattle.tao_core.proofs.Ways.{with_session_too}
 use Rattle.tao_core.specs.Calls.{world_at}
+use Rattle.topology.specs.Config.{Settings}
 use Rattle.topology.specs.States.{NodeStates}
 use Rattle.core_model.specs.States.{AreStatesOf}
 
@@ -185,6 +189,15 @@ evicted_core tells tables node key old new reply of answers fleet rest =
       reached = evicted_reach tables node key old new reply answers come.reached;
       arrived = subst (HaveArrived tables) (sym (ap (λ (x : CoreState). x.mail) rest)) come.arrived;
     }) rest
+
+-- ---- cuts
+
+-- where nodes went on, and no log was cut, none lies behind a cut still
+pub still_past : (tells : Bool) (s : Settings) (before later : Tables) (old new : Fleet) → HaveMasterRegions s → IsConsistent tells s before old
+    → GoesOn old new → StoresGrow tells s before later → WhereTold tells (ArePastCuts before old) → WhereTold tells (ArePastCuts later new)
+still_past tells s before later old new regions was goes grows past told =
+    (nodes_stay_past_cuts s before later old new).stay regions (subst (λ b. IsConsistent b s before old) told was) goes
+    (subst (λ b. StoresGrow b s before later) told grows) (past told)
 
 -- ---- no table changes
 

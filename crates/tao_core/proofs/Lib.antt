@@ -13,7 +13,6 @@ pub mod HeldKeeping
 pub mod HeldSteps
 pub mod Keeping
 pub mod Reaching
-pub mod NamesOnce
 pub mod Settled
 pub mod SettledLaws
 pub mod StayOpen
@@ -29,4 +28,5 @@ pub mod SettledReads
 pub mod NotBegun
 pub mod AnsweredAtOnce
 mod HealthLemmas
+mod Trimmed
 pub mod OpenedLemmas

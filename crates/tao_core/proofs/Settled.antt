@@ -7,6 +7,7 @@ use Rattle.ask_table.specs.declared.ask.Ask.{Ask}
 use Rattle.core_mail.proofs.Arrivals.{arrived_stay}
 use Rattle.core_mail.specs.Inboxes.{AreEmpty, AreInboxesOf, HaveArrived, Inboxes}
 use Rattle.core_model.specs.Consistent.{GoesOn, IsConsistent}
+use Rattle.core_model.specs.Cuts.{ArePastCuts}
 use Rattle.core_model.specs.Emptied.{region_tables}
 use Rattle.core_model.specs.Fleet.{EachNode, Fleet, region_of}
 use Rattle.core_model.specs.Growing.{StoresGrow}
@@ -55,7 +56,7 @@ use Rattle.topology.specs.States.{NodeStates, is_up}
 use Rattle.write_model.proofs.Paired.{no_jobs_are_paired}
 use Rattle.write_model.specs.Steps.{HaveNoJobs}
 use Rattle.tao_core.proofs.HeldOn.{held_on, none_come}
-use Rattle.tao_core.proofs.Keeping.{written_core}
+use Rattle.tao_core.proofs.Keeping.{still_past, written_core}
 use Rattle.tao_core.specs.Core.{CoreState, IsConsistentCore, LeavesCore, Moment, StaysHeld, moment}
 use Rattle.tao_core.specs.Settling.{HasRunJobs, HasStreamed, IsUnsettled, LeavesSettled, SettlesCore}
 use Rattle.tao_core.specs.Calls.{world_at}
@@ -172,7 +173,7 @@ module _ (tells : Bool) (core seen : CoreState) (own : core ≡ seen) (before : 
     posted_along : nodes.fleet.followers ≡ core.fleet.followers → LeavesCore tells before now core (with_nodes nodes)
     posted_along same = record {
       is_consistent = written_core tells before.told core of now.told nodes.topology nodes.fleet nodes.mail on.states on.consistent on.inboxes on.arrived
-          on.goes on.grows.logs;
+          on.goes on.grows.on.logs;
       on = stores_held core.fleet nodes.fleet on.goes same;
       comes = none_come tells now.told core (with_nodes nodes) on.states;
       grows = on.grows;
@@ -247,12 +248,18 @@ module _ (tells : Bool) (core seen : CoreState) (own : core ≡ seen) (before : 
         read_along = record {
           is_consistent = written_core tells before.told core of asked.told moved.topology same moved.mail on_streams.states read
               (subst (λ (f : Fleet). AreInboxesOf core.settings (pens_of f.stores) moved.mail) (sym fleet_is) on_streams.inboxes) arrived_asked
-              (subst (GoesOn core.fleet) (sym fleet_is) on_streams.goes) asked_grows.logs;
+              (subst (GoesOn core.fleet) (sym fleet_is) on_streams.goes) asked_grows.on.logs;
           on = subst (StaysHeld core.fleet) (sym fleet_is) moved_along.on;
           comes = none_come tells asked.told core (left_with same moved.mail) on_streams.states;
           grows = asked_grows;
           later = later_trans before mid asked on_streams.later read_later;
         }
+
+        -- no node lies behind a cut then
+        pub read_past : WhereTold tells (ArePastCuts before.told seen.fleet) → WhereTold tells (ArePastCuts asked.told same)
+        read_past past =
+            still_past tells core.settings before.told asked.told core.fleet same of.masters of.consistent read_along.on.goes asked_grows
+            (subst (λ (x : CoreState). WhereTold tells (ArePastCuts before.told x.fleet)) (sym own) past)
 
         pub stops_at_lengths : (given : SettleStop) → StopsLengths core.settings mid asked given
             → SettleLeaves tells (IsUnsettled tells given) (moment seen before from) (moment (left_with same moved.mail) asked over)
@@ -287,7 +294,7 @@ module _ (tells : Bool) (core seen : CoreState) (own : core ≡ seen) (before : 
               record {
                 is_consistent = written_core tells before.told core of now.told moved.topology next left on_streams.states caught
                     (subst (λ ms. AreInboxesOf core.settings (pens_of ms) left) (sym (stores ∙ ap (λ (f : Fleet). f.stores) fleet_is))
-                    (stays on_streams.inboxes)) arrives held.goes ends.logs;
+                    (stays on_streams.inboxes)) arrives held.goes ends.on.logs;
                 on = held;
                 comes = none_come tells now.told core (left_with next left) on_streams.states;
                 grows = ends;

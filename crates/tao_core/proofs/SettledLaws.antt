@@ -2,7 +2,7 @@
 use Rattle.std.proofs.Common.{◌≡◌, ◌≤◌, true, length, refl, subst, sym, arith, inl, inr}
 use Rattle.core_model.proofs.Settled.{settled_stays}
 use Rattle.core_model.specs.Consistent.{GoesOn, IsConsistent}
-use Rattle.core_model.specs.Growing.{StoresGrow}
+use Rattle.core_model.specs.Growing.{TablesGoOn}
 use Rattle.core_model.specs.States.{AreSettled, HaveSameLogs, nodes_now}
 use Rattle.core_model.specs.Stores.{AreWhole}
 use Rattle.core_nodes.proofs.CaughtUp.{nodes_catch_up}
@@ -48,7 +48,7 @@ stage_whole : (before after : HeldPlan) (old new : Moment) → IsCoreOf true old
 stage_whole (of.Read p) (of.Read q) old new are settled steps =
     let core = old.core in
     let grows = stays_stores true core.settings old.keepers new.keepers steps.tables in
-    (stages_miss_nothing core.settings p q (world_of old) (world_of new)).whole steps.steps are.is_consistent.consistent settled grows.logs
+    (stages_miss_nothing core.settings p q (world_of old) (world_of new)).whole steps.steps are.is_consistent.consistent settled grows.on.logs
 stage_whole (of.Read p) (of.Write q) old new are settled steps = tt
 stage_whole (of.Write p) (of.Read q) old new are settled steps = tt
 stage_whole (of.Write p) (of.Write q) old new are settled steps = tt
@@ -76,7 +76,7 @@ whole_alone m are few =
 -- it stays so
 stays_settled : (old new : Moment) → IsConsistentCore true old.keepers.told old.core → IsConsistentCore true new.keepers.told new.core
     → new.core.settings ≡ old.core.settings → GoesOn old.core.fleet new.core.fleet → ComeUp true new.keepers.told old.core new.core
-    → StoresGrow true old.core.settings old.keepers.told new.keepers.told → HaveSameLogs old.core.settings old.keepers.told new.keepers.told
+    → TablesGoOn true old.core.settings old.keepers.told new.keepers.told → HaveSameLogs old.core.settings old.keepers.told new.keepers.told
     → IsSettled old → IsSettled new
 stays_settled old new was are same goes comes grows logs settled =
     let now = nodes_now new.core.fleet new.core.states in

@@ -88,8 +88,8 @@ module _ (s : Settings) (p : Reading) (old : World) (masters : HaveMasterRegions
               leaders = λ place name node at comes. absurd (comes_not name x.states y.states stage.on.states comes);
               followers = λ place name node at comes. absurd (comes_not name x.states y.states stage.on.states comes);
             })
-            grows (λ shard here. ap (λ t. t.log) (stays (master_store s shard))) settled;
-        come = (stages_miss_nothing s q r x y).whole steps.steps are settled grows.logs (version_now s p old.keepers) come;
+            grows.on (λ shard here. ap (λ t. t.log) (stays (master_store s shard))) settled;
+        come = (stages_miss_nothing s q r x y).whole steps.steps are settled grows.on.logs (version_now s p old.keepers) come;
       }
   comes_by q (of.Write w) x y same tables are settled come stage = absurd stage.steps
 

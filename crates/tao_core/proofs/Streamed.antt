@@ -55,7 +55,7 @@ pub posted_leaves : (tells : Bool) (core : CoreState) (before now : KeeperState)
     → end.fleet.followers ≡ core.fleet.followers → LeavesCore tells before now core (left_core core end.topology end.fleet end.mail)
 posted_leaves tells core before now from to end of on same = record {
   is_consistent = written_core tells before.told core of now.told end.topology end.fleet end.mail on.states on.consistent on.inboxes on.arrived
-      on.goes on.grows.logs;
+      on.goes on.grows.on.logs;
   on = stores_held core.fleet end.fleet on.goes same;
   comes = none_come tells now.told core (left_core core end.topology end.fleet end.mail) on.states;
   grows = on.grows;

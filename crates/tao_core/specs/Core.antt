@@ -4,7 +4,8 @@ use Rattle.std.specs.Prelude.{ℕ, ◌≡◌, ◌<◌, ◌≤◌, List, [], Bool
 use Rattle.core_mail.specs.Inboxes.{AreEmpty, AreInboxesOf, HaveArrived, Inboxes}
 use Rattle.core_model.specs.Consistent.{GoesOn, IsConsistent}
 use Rattle.core_model.specs.Fleet.{Fleet}
-use Rattle.core_model.specs.Growing.{StoresGrow}
+use Rattle.core_model.specs.Cuts.{ArePastCuts}
+use Rattle.core_model.specs.Growing.{StoresGrow, TablesGoOn}
 use Rattle.core_model.specs.Pens.{AreFirstNotes, Pens, pens_of}
 use Rattle.core_model.specs.States.{AreStatesOf, ComeUpAtStores, nodes_now}
 use Rattle.core_model.specs.Stores.{HaveMasterRegions, master_log}
@@ -85,10 +86,11 @@ abbrev pub IsOfSession : List Session → HeldPlan → Type 0
 IsOfSession sessions (Write p) = is_open sessions (author p.origin) ≡ true
 IsOfSession sessions (Read p) = IfSome p.reader (λ number. is_open sessions number ≡ true)
 
--- the core may be used with keepers that tell these tables: it is consistent, each call that is held can go on, each open ask is that of one held
--- read, and each of them is of an open session
+-- the core may be used with keepers that tell these tables: it is consistent, no node lies behind a cut, each call that is held can go on, each open ask is
+-- that of one held read, and each of them is of an open session
 pub record IsCoreOf (tells : Bool) (tables : Tables) (core : CoreState) : Type 0 where
   pub is_consistent : IsConsistentCore tells tables core
+  pub past : WhereTold tells (ArePastCuts tables core.fleet)
   pub plans : ArePlansOf tells core.settings tables core.fleet core.plans
   pub authors : (number : ℕ) (plan : HeldPlan) → plan_at core.plans number ≡ Some plan → IsOfSession core.sessions plan
 
@@ -102,7 +104,7 @@ abbrev pub ComeUp : Bool → Tables → CoreState → CoreState → Type 0
 ComeUp tells tables old new = WhereTold tells (ComeUpAtStores tables (nodes_now old.fleet old.states) (nodes_now new.fleet new.states))
 
 -- what a call leaves of a core: it is consistent, each call that is held can go on, who came up is at its store, of tables only logs of the
--- configuration's stores grew, and no count of the keepers fell
+-- configuration's stores grew, none was cut, and no count of the keepers fell
 pub record LeavesCore (tells : Bool) (before now : KeeperState) (old new : CoreState) : Type 0 where
   pub is_consistent : IsConsistentCore tells now.told new
   pub on : StaysHeld old.fleet new.fleet
@@ -117,7 +119,7 @@ pub record StaysUsable (tells : Bool) (before now : KeeperState) (old new : Core
   pub keepers : IsCoreOf tells now.told new
   pub goes : GoesOn old.fleet new.fleet
   pub comes : ComeUp tells now.told old new
-  pub grows : StoresGrow tells old.settings before.told now.told
+  pub grows : TablesGoOn tells old.settings before.told now.told
   pub later : IsLater before now
 
 -- a core, and what its keepers and its link show, at a moment

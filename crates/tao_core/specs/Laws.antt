@@ -1,7 +1,7 @@
 -- What a settle leaves, and how long it stays.
 use Rattle.std.specs.Prelude.{ℕ, ◌≡◌, ◌≤◌, ⊤, List, length, true}
 use Rattle.core_model.specs.Consistent.{GoesOn}
-use Rattle.core_model.specs.Growing.{StoresGrow}
+use Rattle.core_model.specs.Growing.{TablesGoOn}
 use Rattle.core_model.specs.States.{AreSettled, HaveSameLogs, nodes_now}
 use Rattle.core_model.specs.Stores.{AreWhole, master_log}
 use Rattle.core_nodes.specs.Beginning.{AreAtStores}
@@ -48,7 +48,7 @@ pub record SettledUntilACommit : Type 0 where
   -- they stay so, whatever is asked, until a log grows
   pub stays : (old new : Moment) → IsConsistentCore true old.keepers.told old.core → IsConsistentCore true new.keepers.told new.core
       → new.core.settings ≡ old.core.settings → GoesOn old.core.fleet new.core.fleet → ComeUp true new.keepers.told old.core new.core
-      → StoresGrow true old.core.settings old.keepers.told new.keepers.told → HaveSameLogs old.core.settings old.keepers.told new.keepers.told
+      → TablesGoOn true old.core.settings old.keepers.told new.keepers.told → HaveSameLogs old.core.settings old.keepers.told new.keepers.told
       → IsSettled old → IsSettled new
   -- each read that begins then is answered at the last version of its key, whichever nodes are down
   pub reads : (old new : Moment) (call : CheckedRead) (reply : ReadReply) → IsConsistentCore true old.keepers.told old.core → IsSettled old

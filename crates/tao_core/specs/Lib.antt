@@ -11,4 +11,5 @@ pub mod Opened
 pub mod Replies
 pub mod StoreReplies
 pub mod Streams
+pub mod Trims
 pub mod Settling

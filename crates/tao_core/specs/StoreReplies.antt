@@ -1,7 +1,7 @@
 -- What the replies to the words of stores say.
 use Rattle.std.specs.Prelude.{ℕ, ◌≡◌, Bool, List, length}
 use Rattle.counts.specs.Count.{Rose}
-use Rattle.core_model.specs.Stores.{master_log}
+use Rattle.core_model.specs.Stores.{master_log, region_store}
 use Rattle.graph_model.specs.Answers.{answer}
 use Rattle.graph_model.specs.Told.{WhereTold}
 use Rattle.replies.specs.declared.refusals.Refusal.TheVariants.{Store, Memory}
@@ -26,6 +26,7 @@ use Rattle.topology.specs.Config.{Settings}
 use Rattle.tao_core.specs.Core.{Moment}
 use Rattle.tao_core.specs.Settling.{AnswersRepair, AnswersSettle}
 use Rattle.tao_core.specs.Streams.{AnswersStream, asked_stream}
+use Rattle.tao_core.specs.Trims.{AnswersTrim}
 
 -- ---- refusals
 
@@ -74,6 +75,7 @@ AnswersAudit tells s old call reply new = ⊥
 -- what the reply to what is asked of stores says
 abbrev pub AnswersStore : Bool → CheckedStore → Moment → Reply → Moment → Type 0
 AnswersStore tells (asked.Stream region shard position) old reply new = AnswersStream tells (asked_stream region shard position) old reply new
+AnswersStore tells (asked.Trim region shard position) old reply new = AnswersTrim tells (region_store region shard) position old reply new
 AnswersStore tells (asked.Repair shard) old reply new = AnswersRepair tells shard old reply new
 AnswersStore tells asked.Settle old reply new = AnswersSettle tells old reply new
 AnswersStore tells (asked.Audit call) old reply new =

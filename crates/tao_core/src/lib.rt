@@ -9,7 +9,9 @@
 //! teaches its session its entry and the one that it wrote at the other end, and nothing else a session; `cut`
 //! and `mend` change the one direction that they name; a step of a stream carries an entry from its shard's master
 //! store to a slave's, which takes it where it comes next, tells its verdict and the position that comes next then,
-//! and is refused into a master's store; a repair is of the first open job of its shard, and tells
+//! and is refused into a master's store; a trim cuts a store's log at the least of its position and of what all stores of
+//! its shard have, lets the nodes of the store's region that lie behind begin anew, and tells the cut and how many of these
+//! are up; no entry and no job changes by it; a repair is of the first open job of its shard, and tells
 //! that one and whether an entry was written; a settle runs all jobs, moves every stream to its end, lets every node
 //! that is up catch up with its region's stores, empties the inboxes and tells the lengths of the logs: then no job is
 //! open, every edge has its inverse, every store has its shard's whole log, and each such node holds exactly what it
@@ -32,7 +34,7 @@
 //! The contracts that say so: `Core::open`, `Core::call`, `Core::settle`, `Core::item`, `Core::mark`,
 //! `Core::floor`; `AnswersRequest`, `AnswersCall`, `AnswersDeliver`, `AnswersSecond`,
 //! `AnswersLoss`, `AnswersRefill`, `AnswersShow`, `AnswersInbox`, `AnswersHold`, `AnswersAdvance`,
-//! `AnswersRepair`, `AnswersStream`, `AnswersSettle`, `IsAudit`, `AnswersHealth`, `IsCoreOf`; the law `settled_until_a_commit`.
+//! `AnswersRepair`, `AnswersStream`, `AnswersTrim`, `AnswersSettle`, `IsAudit`, `AnswersHealth`, `IsCoreOf`; the law `settled_until_a_commit`.
 #![tactic(auto)]
 
 mod audits;
@@ -50,6 +52,7 @@ mod settling;
 mod stores;
 mod streams;
 mod teaching;
+mod trimming;
 
 pub use core_sessions::OpenSession;
 pub use serving::Core;

@@ -74,7 +74,7 @@ impl<'c> Core<'c> {
     /// are open then. `KeeperFault` comes only where the keepers' count of faults rose, and
     /// `OutOfMemory` where there was no memory; some of the first stores are open then.
     ///
-    /// Costs two calls of the keeper for each shard and one for each entry that a log has.
+    /// Costs four calls of the keeper for each store, and one for each entry that a log has.
     pub fn open<K: Keeper>(
         alloc: Global,
         config: &'c Config,
@@ -114,10 +114,10 @@ impl<'c> Core<'c> {
     }
 
     /// Answers a request: opens a session, makes a write, answers a read or an audit, does a stage of a held call, delivers a message,
-    /// drops an item of a node, puts a node down or up, lets a tier suspect or trust a leader, cuts or mends a link, streams an entry, runs a job, or
-    /// settles; or refuses it. A write's one entry is committed before it is
-    /// answered, and its session learns it with the answer. After a refusal no log has changed, but where it tells the position of a write
-    /// that stands, and but for the jobs that a repair or a settle had merged. Logs only grow.
+    /// drops an item of a node, puts a node down or up, lets a tier suspect or trust a leader, cuts or mends a link, streams an entry, trims a
+    /// log, runs a job, or settles; or refuses it. A write's one entry is committed before it is answered, and its session learns it with the
+    /// answer. After a refusal no log has changed, but where it tells the position of a write that stands, and but for the jobs that a repair or
+    /// a settle had merged. Logs only grow.
     ///
     /// Costs what `request_check::check` does, a binary search among the open sessions, a look-up at the follower, and where that
     /// holds nothing that answers, what its leader takes. An audit takes the whole log of its shard; what a settle takes is said at

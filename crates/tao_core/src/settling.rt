@@ -2,6 +2,7 @@
 ghost use Rattle.std.specs.Prelude.{◌≡◌, ◌<◌, IfErr, IfOk};
 ghost use Rattle.core_mail.specs.Inboxes.{AreEmpty};
 ghost use Rattle.core_model.specs.Consistent.{IsConsistent};
+ghost use Rattle.core_model.specs.Cuts.{ArePastCuts};
 ghost use Rattle.core_nodes.specs.Beginning.{AreLengths};
 ghost use Rattle.core_nodes.specs.Settling.{StopsLengths, log_lengths};
 ghost use Rattle.graph_model.specs.Told.{WhereTold};
@@ -152,6 +153,7 @@ impl<'c> Core<'c> {
         link: &mut L,
     ) -> Result<Vec<u64>, SettleStop>
         requires keepers { IsConsistentCore K.TELLS (K.state keepers.old).told self.old }
+        requires past { WhereTold K.TELLS (ArePastCuts (K.state keepers.old).told self.old.fleet) }
         ensures settles { IfOk result (λ logs. SettlesCore K.TELLS logs.items (moment self.old (K.state keepers.old) (L.shown link.old))
             (moment self.new (K.state keepers.new) (L.shown link.new))) }
         ensures empty { IfOk result (λ logs. AreEmpty self.new.mail) }

@@ -37,6 +37,11 @@ impl<'c> Core<'c> {
                 let at = region_store(region, shard);
                 self.stream(keepers, link, AskedStream { at, position })
             }
+            CheckedStore::Trim {
+                region,
+                shard,
+                position,
+            } => self.trim(keepers, region_store(region, shard), position),
             CheckedStore::Repair { shard } => self.repair(keepers, link, shard),
             CheckedStore::Settle => self.settle(keepers, link),
             CheckedStore::Audit(call) => audit(alloc, self.config, keepers, &call),

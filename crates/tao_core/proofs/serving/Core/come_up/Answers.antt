@@ -8,7 +8,8 @@ use Rattle.tao_keeper.specs.KeeperState.{IsLater}
 use Rattle.topology.specs.States.{is_up}
 use Rattle.tao_core.specs.Core.{CoreState, core_state}
 use Rattle.tao_core.proofs.AskedLemmas.{cache_there}
-use Rattle.tao_core.proofs.HealthLemmas.{come_fails, comes_up, down_stays_usable, placed_cache, placed_region, stays_down, unchanged_usable, up_usable, was_up}
+use Rattle.tao_core.proofs.HealthLemmas.{comes_up, down_stays_usable, fails_to_ask, placed_cache, placed_region, stays_down, unchanged_usable}
+use Rattle.tao_core.proofs.HealthLemmas.{up_usable, was_up}
 use Rattle.tao_core.proofs.serving.Core.come_up.Goals as goal
 
 pub come_up-requires-clause-consistent : goal.come_up-requires-clause-consistent
@@ -55,7 +56,7 @@ returns-in-Err g c =
     let later : IsLater before now = record { calls = rose.ensures.calls.calls; faults = rose.ensures.calls.faults } in
     let told = c.refused_as.ensures ∙ ap (λ n. refused_as n c.in-Err.refusal) c.faults.ensures in
     let fails = subst (λ r. AskFails r before now) (sym told)
-    (come_fails c.in-Err.refusal before now c.in-Err.ensures.refused (λ fault. rose.ensures.calls.failed (c.in-Err.is ∙ fault))) in
+    (fails_to_ask c.in-Err.refusal before now c.in-Err.ensures.refused (λ fault. rose.ensures.calls.failed (c.in-Err.is ∙ fault))) in
     record {
       does = λ link. stays_down g.K.Keeper.TELLS c.args.node core c.args.self.now c.self.view_is before now c.requires.keepers rose.new.self
           rose.ensures.tables later c.in-Err.ensures.same link _ c.refused_as.result refl fails (sym c.is_up.ensures ∙ c.if-is_up.false);

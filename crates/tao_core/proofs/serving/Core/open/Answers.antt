@@ -6,7 +6,7 @@ use Rattle.core_model.specs.Pens.{pens_of}
 use Rattle.topology.specs.States.{NodeStates}
 use Rattle.tao_core.specs.Core.{IsSessionOf}
 use Rattle.tao_core.proofs.HeldNone.{no_plan, none_held}
-use Rattle.tao_core.proofs.OpenedLemmas.{opened_as}
+use Rattle.tao_core.proofs.OpenedLemmas.{opened_as, opened_past, refused_as}
 use Rattle.tao_core.proofs.serving.Core.open.Goals as goal
 
 pub returns-in-Ok-open-clause-keepers : goal.returns-in-Ok-open-clause-keepers
@@ -26,6 +26,7 @@ returns-in-Ok-open-clause-keepers g c =
         sessions = subst (All (IsSessionOf g.K.Keeper.TELLS s tables (pens_of c.in_ok-fleet.fleet.stores))) (sym c.new.ensures)
             (All-from_recursion (IsSessionOf g.K.Keeper.TELLS s tables (pens_of c.in_ok-fleet.fleet.stores)) [] tt);
       };
+      past = opened_past g.K.Keeper.TELLS s tables c.in_ok-fleet.fleet c.in_ok-fleet.ensures.consistent c.in_ok-fleet.ensures.ends;
       authors = λ number plan at. absurd (no_plan c.new-in-Ok-open.result number plan c.new-in-Ok-open.ensures.none at);
       plans = none_held g.K.Keeper.TELLS s _ c.in_ok-fleet.fleet c.new-in-Ok-open.result c.new-in-Ok-open.ensures.none c.in_ok-fleet.ensures.empty;
     }
@@ -34,3 +35,18 @@ pub returns-in-Ok-open-clause-as_before : goal.returns-in-Ok-open-clause-as_befo
 returns-in-Ok-open-clause-as_before g c =
     opened_as g.K.Keeper.TELLS c.args.config.now c.args.line.now (g.K.Keeper.state c.args.keepers.now).told (g.K.Keeper.state c.open.new.keepers).told
     c.in_ok-fleet.ensures.opened
+
+pub returns-in_default-clause-as_before : goal.returns-in_default-clause-as_before
+returns-in_default-clause-as_before g c =
+    opened_as g.K.Keeper.TELLS c.args.config.now c.args.line.now (g.K.Keeper.state c.args.keepers.now).told (g.K.Keeper.state c.open.new.keepers).told
+    c.in_ok-fleet.ensures.opened
+
+pub returns-in-Err-clause-as_before : goal.returns-in-Err-clause-as_before
+returns-in-Err-clause-as_before g c =
+    opened_as g.K.Keeper.TELLS c.args.config.now c.args.line.now (g.K.Keeper.state c.args.keepers.now).told (g.K.Keeper.state c.open.new.keepers).told
+    c.in_ok-fleet.ensures.opened
+
+pub returns-in_err-fleet-clause-as_before : goal.returns-in_err-fleet-clause-as_before
+returns-in_err-fleet-clause-as_before g c =
+    refused_as g.K.Keeper.TELLS c.args.config.now c.args.line.now (g.K.Keeper.state c.args.keepers.now) (g.K.Keeper.state c.open.new.keepers) _
+    c.in_err-fleet.ensures.refused

@@ -3,6 +3,7 @@ use Rattle.core_model.specs.Stores.{IsConfiguredStore}
 use Rattle.request_check.specs.Stores.{IsPlacedStore}
 use Rattle.tao_core.specs.Core.{CoreState, moment}
 use Rattle.tao_core.specs.StoreReplies.{AnswersAudit, AnswersStore}
+use Rattle.tao_core.specs.Trims.{AnswersTrim}
 use Rattle.tao_core.proofs.HeldOn.{core_held, nodes_go_on, same_held}
 use Rattle.tao_core.proofs.Keeping.{core_stays}
 use Rattle.tao_core.proofs.serving.Core.perform_store.Goals as goal
@@ -17,6 +18,25 @@ returns-in-Stream-clause-usable g c =
     let ends = c.stream.ensures in
     nodes_go_on g.K.Keeper.TELLS (g.K.Keeper.state c.args.keepers.now) (g.K.Keeper.state c.stream.new.keepers) c.args.self.now c.stream.new.self
     c.requires.keepers ends.leaves ends.rest
+
+pub trim-requires-clause-here : goal.trim-requires-clause-here
+trim-requires-clause-here g c =
+    let here = subst (IsPlacedStore c.args.self.now.settings) c.in-Trim.is c.requires.can in
+    subst (IsConfiguredStore c.args.self.now.settings) (sym c.region_store.ensures) (record { region = here.0; shard = here.1 })
+
+pub returns-in-Trim : goal.returns-in-Trim
+returns-in-Trim g c =
+    let old = g.K.Keeper.state c.args.keepers.now in
+    let new = g.K.Keeper.state c.trim.new.keepers in
+    let link = g.L.Link.shown c.args.link.now in
+    let core = c.args.self.now in
+    let done = c.trim in
+    record {
+      does = subst (λ a. AnswersStore g.K.Keeper.TELLS a (moment core old link) done.result (moment done.new.self new link)) (sym c.in-Trim.is)
+          (subst (λ at. AnswersTrim g.K.Keeper.TELLS at c.in-Trim.position (moment core old link) done.result (moment done.new.self new link))
+          c.region_store.ensures (done.ensures.does link));
+      usable = done.ensures.usable;
+    }
 
 pub repair-requires-clause-here : goal.repair-requires-clause-here
 repair-requires-clause-here g c = subst (IsPlacedStore c.args.self.now.settings) c.in-Repair.is c.requires.can

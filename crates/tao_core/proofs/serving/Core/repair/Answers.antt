@@ -25,7 +25,7 @@ returns-clause-leaves g c =
     let end = done.new.nodes in
     subst (λ (x : CoreState). LeavesCore tells before now x (left_core core end.topology end.fleet end.mail)) c.self.view_is (record {
       is_consistent = written_core tells before.told core of now.told end.topology end.fleet end.mail on.states on.consistent on.inboxes on.arrived
-          on.goes on.grows.logs;
+          on.goes on.grows.on.logs;
       on = stores_held core.fleet end.fleet on.goes
           (repaired_same tells core.settings c.args.shard (world_at core before (g.L.Link.shown c.args.link.now))
           (world end now (g.L.Link.shown done.new.link)) done.result done.ensures.repairs);

@@ -15,7 +15,7 @@ use Rattle.tao_schema.specs.Schema.{types_of}
 use Rattle.topology.specs.Config.{Settings}
 use Rattle.tao_core.specs.Core.{IsConsistentCore, core_state}
 use Rattle.tao_core.proofs.Keeping.{core_can_post}
-use Rattle.tao_core.proofs.Settled.{settles_core, stops_at_jobs, stops_at_lengths, stops_at_node, stops_at_stream}
+use Rattle.tao_core.proofs.Settled.{read_past, settles_core, stops_at_jobs, stops_at_lengths, stops_at_node, stops_at_stream}
 use Rattle.tao_core.proofs.serving.Core.settle_all.Goals as goal
 
 pub run_jobs-requires : goal.run_jobs-requires
@@ -38,6 +38,19 @@ run_streams-requires g c =
           (world ran.new.nodes (g.K.Keeper.state ran.new.keepers) (g.L.Link.shown ran.new.link))
           (core_can_post tells core keepers link (subst (IsConsistentCore tells keepers.told) (sym c.self.view_is) c.requires.keepers)) ran.ensures.on;
     }
+
+pub catch_up-requires-clause-past : goal.catch_up-requires-clause-past
+catch_up-requires-clause-past g c =
+    let state = g.K.Keeper.state in
+    let shown = g.L.Link.shown in
+    let core = core_state c.self.inside in
+    let ran = c.run_jobs in
+    let moved = c.run_streams in
+    let read = c.measure in
+    read_past g.K.Keeper.TELLS core c.args.self.now c.self.view_is (state c.args.keepers.now) (shown c.args.link.now) c.requires.keepers
+    ran.new.nodes (state ran.new.keepers) (shown ran.new.link) ran.ensures.on ran.ensures.rest c.in_ok-run_jobs.ensures.runs
+    moved.new.nodes (state moved.new.keepers) (shown moved.new.link) moved.ensures.on moved.ensures.followers c.in_ok-run_streams.ensures.runs
+    (state read.new.keepers) read.new.fleet read.ensures.same read.ensures.consistent read.ensures.tables read.ensures.later c.requires.past
 
 pub returns-in_err-run_jobs : goal.returns-in_err-run_jobs
 returns-in_err-run_jobs g c =

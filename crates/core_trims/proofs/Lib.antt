@@ -1,0 +1,3 @@
+pub mod AfterTrim
+pub mod Behind
+pub mod Resetting

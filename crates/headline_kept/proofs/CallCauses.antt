@@ -24,13 +24,13 @@ use Rattle.read_plan.specs.Readings.{Reading}
 use Rattle.replies.specs.declared.refusals.NodeRefused.TheVariants.{NoServer, NodeDown}
 use Rattle.replies.specs.declared.refusals.Refusal.{Refusal}
 use Rattle.replies.specs.declared.refusals.Refusal.TheVariants.{Memory, Node, Store}
-use Rattle.replies.specs.declared.refusals.StoreRefused.TheVariants.{KeeperFault, LinkFault, LogFull, SeqReused, ShardFull, StampFull}
+use Rattle.replies.specs.declared.refusals.StoreRefused.TheVariants.{KeeperFault, LinkFault, LogFull, SeqReused, TooOld, ShardFull, StampFull}
 use Rattle.replies.specs.declared.refusals.When.{When}
 use Rattle.replies.specs.declared.reply.Reply.{Reply}
 use Rattle.replies.specs.declared.reply.Reply.TheVariants.{Called, Refused}
 use Rattle.request_check.specs.declared.checked.Checked.{Checked}
 use Rattle.requests.specs.declared.request.Request.{Request}
-use Rattle.shard_tables.specs.Written.{AskedWrite, IsLogFull, IsReused, IsShardFull, IsStampFull}
+use Rattle.shard_tables.specs.Written.{AskedWrite, IsLogFull, IsReused, IsTooOld, IsShardFull, IsStampFull}
 use Rattle.tao_base.specs.Writes.{write_shard}
 use Rattle.tao_base.specs.declared.entry.Entry.{Entry}
 use Rattle.tao_core.specs.Calls.{world_of}
@@ -117,6 +117,7 @@ module _ (tells : Bool) (old : Moment) (request : Request) (what : Checked) (new
 
     pub write_cause : Down D → Server → Full → (refusal : Refusal) → WriteCause Terms (outside_at old) (outside_at new) refusal
         → HasCause tells old request refusal new
+    write_cause down server full (Store (TooOld cut position)) h = (what, asks, of_write (λ write. IsTooOld write cut position) h.1)
     write_cause down server full (Store (SeqReused position)) h = (what, asks, of_write (λ write. IsReused write position) h.1)
     write_cause down server full (Store (ShardFull serial)) h = (what, asks, of_write (λ write. IsShardFull write serial) h.1)
     write_cause down server full (Store (StampFull number)) h = (what, asks, of_write (λ write. IsStampFull write number) h.1)
@@ -238,6 +239,7 @@ module _ (tells : Bool) (mid new : Moment) (refusal : Refusal) where
       → is_up mid.core.states p.follower ≡ true → IsOut (of.Write p) after → IsOver after (Refused told)
       → WriteCause (whole_terms (rules_of tells settings) p (world_of mid) entry) (outside_at mid) (outside_at new) told
       → WriteCause (OnceTerms p entry) (outside_at mid) (outside_at new) told
+  write_narrow p after entry (Store (TooOld cut position)) begun up out over h = h
   write_narrow p after entry (Store (SeqReused position)) begun up out over h = h
   write_narrow p after entry (Store (ShardFull serial)) begun up out over h = h
   write_narrow p after entry (Store (StampFull number)) begun up out over h = h
@@ -259,6 +261,7 @@ module _ (tells : Bool) (mid new : Moment) (refusal : Refusal) where
   write_tables : (p : Writing) (entry : Option Entry) (told : Refusal) → WriteCause (OnceTerms p entry) (outside_at mid) (outside_at new) told
       → StandsWhen tells settings new.keepers.told (Some (call_of_plan p)) (when_of entry) → nat_lt 0 (refused_at told) ≡ false
       → WhereTold tells (entry ≡ None)
+  write_tables p entry (Store (TooOld cut position)) h stands small told = h.0
   write_tables p entry (Store (SeqReused position)) h stands small told = h.0
   write_tables p entry (Store (ShardFull serial)) h stands small told = h.0
   write_tables p entry (Store (StampFull number)) h stands small told = h.0

@@ -30,7 +30,7 @@ use Rattle.headline_kept.proofs.ItemEntries.{IsUnder}
 use Rattle.headline_kept.proofs.ItemStages.{Brings, comes_brings, whole_brings}
 use Rattle.headline_kept.proofs.NodeLines.{again_leaves, deliver_leaves, evict_leaves, health_leaves, link_leaves, loss_leaves, no_change, no_fleet}
 use Rattle.headline_kept.proofs.NodeLines.{none_brought, plan_self}
-use Rattle.headline_kept.proofs.ShardLines.{repair_leaves, settle_leaves, stream_leaves}
+use Rattle.headline_kept.proofs.ShardLines.{repair_leaves, settle_leaves, stream_leaves, trim_leaves}
 use Rattle.headline_kept.specs.Headline.{LinesKeepItems}
 use Rattle.headline_kept.specs.Standing.{write_of_plan}
 use Rattle.headline_kept.specs.Touches.{IsApartFromPlan, IsAtCall, IsAtPlan, IsLeader, IsOfLine, KeepsAsked, LeavesAllItems, LeavesItems, StaysByPlan}
@@ -360,6 +360,7 @@ module _ (tells : Bool) (old new : Moment) where
 
     store_leaves : (asked : CheckedStore) (reply : Reply) → AnswersStore tells asked old reply new → LeavesAllItems tells (asks.Store asked) old new
     store_leaves (store.Stream region shard position) reply answers = stream_leaves tells region shard position old new reply answers
+    store_leaves (store.Trim region shard position) reply answers = trim_leaves tells region shard position old new reply answers
     store_leaves (store.Repair shard) reply answers = repair_leaves tells shard old new reply answers
     store_leaves store.Settle reply answers = settle_leaves tells old new after.goes.marks
     store_leaves (store.Audit read) reply answers =

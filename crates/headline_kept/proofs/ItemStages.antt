@@ -221,11 +221,11 @@ module _ (rules : Rules) (call : AuthoredWrite) (follower : NodeName) (start : W
         answered = passes.under_way.committed;
         own = passes.under_way.own;
         consistent = passes.on.consistent;
-        grows = growing_laws.in_turn rules.tells start.keepers.told old.keepers.told new.keepers.told was.grows passes.on.grows.logs;
+        grows = growing_laws.in_turn rules.tells start.keepers.told old.keepers.told new.keepers.told was.grows passes.on.grows.on.logs;
         brings = record {
           brought = was.brings.brought ++ more.brought;
           are = all_of (IsOfWrite rules.tells s start.keepers.told new.keepers.told call) was.brings.brought more.brought
-              (all_later rules.tells s old.keepers.told new.keepers.told passes.on.grows.logs start.keepers.told call was.brings.brought was.brings.are)
+              (all_later rules.tells s old.keepers.told new.keepers.told passes.on.grows.on.logs start.keepers.told call was.brings.brought was.brings.are)
               (all_since rules.tells s start.keepers.told old.keepers.told was.grows new.keepers.told call more.brought
               (subst (λ w. AllByRecursion (IsOfWrite rules.tells s old.keepers.told new.keepers.told w) more.brought) was.call_is more.are));
           take = both_take follower was.brings.brought more.brought start.fleet old.fleet new.fleet was.brings.take

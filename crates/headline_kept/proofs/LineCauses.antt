@@ -58,6 +58,7 @@ use Rattle.tao_core.specs.LinkReplies.{AnswersLink}
 use Rattle.tao_core.specs.Settling.{AnswersRepair, HasRunJobs, HasStreamed, IsUnsettled, repaired_as, unsettled_as}
 use Rattle.tao_core.specs.StoreReplies.{AnswersStore}
 use Rattle.tao_core.specs.Streams.{AnswersStream, asked_stream, streamed_as}
+use Rattle.tao_core.specs.Trims.{AnswersTrim}
 use Rattle.tao_keeper.specs.KeeperState.{KeeperState, KeepsTables}
 use Rattle.topology.specs.Choices.{master_region}
 use Rattle.topology.specs.Config.{Settings}
@@ -242,6 +243,17 @@ module _ (tells : Bool) (old : Moment) (request : Request) (new : Moment) where
         (subst (λ o. StreamsOver tells s (asked_stream region shard position) o (world_of old) (world_of new))
         (streamed into.outcome refusal into.reply_is) into.streams)
 
+  -- ---- trims
+
+  pub trim_line : (region shard position : ℕ) (refusal : Refusal) → Asks old request (asked.Store (store.Trim region shard position))
+      → AnswersTrim tells (region_store region shard) position old (Refused refusal) new
+      → RefusesAs tells old request (asked.Store (store.Trim region shard position)) refusal new
+  trim_line region shard position refusal asks (inl trims) = (let said = trims.reply_is in absurd (cc))
+  trim_line region shard position refusal asks (inr fails) =
+      let said = fails.reply_is in
+      let is : fails.refusal ≡ refusal = cc in
+      by _ asks refusal (subst Now is (ask_fails _ fails.refusal asks fails.fails)) fails.tables
+
 -- ---- repairs and settles
 
 -- the log at the other end of a job that was not merged is full still
@@ -425,6 +437,7 @@ module _ (tells : Bool) (old : Moment) (request : Request) (new : Moment) where
   pub store_line : (made : CheckedStore) (refusal : Refusal) → Asks old request (asked.Store made) → AnswersStore tells made old (Refused refusal) new
       → RefusesAs tells old request (asked.Store made) refusal new
   store_line (store.Stream region shard position) refusal asks h = stream_line tells old request new region shard position asks refusal h
+  store_line (store.Trim region shard position) refusal asks h = trim_line tells old request new region shard position refusal asks h
   store_line (store.Repair shard) refusal asks h = repair_line shard asks refusal h
   store_line store.Settle refusal asks h = settle_by asks h.0 refusal h.1 h.2
   store_line (store.Audit made) refusal asks h = audit_line made refusal asks h

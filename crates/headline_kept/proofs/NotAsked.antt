@@ -14,7 +14,7 @@ use Rattle.request_check.specs.Calls.{checked_call, checked_read_call}
 use Rattle.request_check.specs.Caches.{checked_cache}
 use Rattle.request_check.specs.Health.{checked_health}
 use Rattle.request_check.specs.Links.{checked_link}
-use Rattle.request_check.specs.Names.{configured_shard, placed_as, region_named, tier_named}
+use Rattle.request_check.specs.Names.{configured_shard, placed_as, store_named, tier_named}
 use Rattle.request_check.specs.Plans.{checked_plan}
 use Rattle.request_check.specs.Refusal.{for_name}
 use Rattle.request_check.proofs.PlacingRequests.{placed}
@@ -190,24 +190,21 @@ placed_ok into (Ok place) what is = (place, refl, cc)
 placed_ok into (Err refused) what is = absurd (cc)
 
 -- a store is asked for what the request asks
-streamed_so : {A B : Type 0} (region : Result A NameRefused) (there : Result B NameRefused) (into : A → CheckedStore) (place : CheckedStore)
-    → (region >>= (λ r. there >>= (λ t. Ok (into r)))) ≡ Ok place → (r : A) × (place ≡ into r)
-streamed_so (Ok r) (Ok t) into place is = (r, cc)
-streamed_so (Ok r) (Err refused) into place is = absurd (cc)
-streamed_so (Err refused) there into place is = absurd (cc)
-
 repaired_so : {B : Type 0} (there : Result B NameRefused) (into : CheckedStore) (place : CheckedStore) → (there >>= (λ t. Ok into)) ≡ Ok place → place ≡ into
 repaired_so (Ok t) into place is = cc
 repaired_so (Err refused) into place is = absurd (cc)
 
-audited_so : {A : Type 0} (found : Result A NameRefused) (into : A → CheckedStore) (place : CheckedStore) → placed_as into found ≡ Ok place
+store_so : {A : Type 0} (found : Result A NameRefused) (into : A → CheckedStore) (place : CheckedStore) → placed_as into found ≡ Ok place
     → (a : A) × (place ≡ into a)
-audited_so (Ok a) into place is = (a, cc)
-audited_so (Err refused) into place is = absurd (cc)
+store_so (Ok a) into place is = (a, cc)
+store_so (Err refused) into place is = absurd (cc)
 
 store_kind : (s : Settings) (made : StoreRequest) (place : CheckedStore) → checked_store s made ≡ Ok place → SameFor (request.Store made) (asked.Store place)
 store_kind s (store.Stream region shard position) place is =
-    let so = streamed_so (region_named s region) (configured_shard s shard) (λ r. of_store.Stream r shard position) place is in
+    let so = store_so (store_named s region shard) (λ at. of_store.Stream at.region at.shard position) place is in
+    λ refusal. ap (λ p. may_write (asked.Store p) refusal) (sym so.1)
+store_kind s (store.Trim region shard position) place is =
+    let so = store_so (store_named s region shard) (λ at. of_store.Trim at.region at.shard position) place is in
     λ refusal. ap (λ p. may_write (asked.Store p) refusal) (sym so.1)
 store_kind s (store.Repair shard) place is =
     let so = repaired_so (configured_shard s shard) (of_store.Repair shard) place is in
@@ -216,7 +213,7 @@ store_kind s store.Settle place is =
     let so : of_store.Settle ≡ place = cc in
     λ refusal. ap (λ p. may_write (asked.Store p) refusal) so
 store_kind s (store.Audit read) place is =
-    let so = audited_so (checked_read_call s read) of_store.Audit place is in
+    let so = store_so (checked_read_call s read) of_store.Audit place is in
     λ refusal. ap (λ p. may_write (asked.Store p) refusal) (sym so.1)
 
 opened_so : {A : Type 0} (found : Result A NameRefused) (into : A → Checked) (what : Checked) → for_name (found >>= (λ a. Ok (into a))) ≡ Ok what

@@ -70,6 +70,8 @@ module _ (tells : Bool) (old new : Moment) where
   after_store (stores.Audit call) reply answers = ap (λ (m : Moment). m.core.plans) answers.1
   after_store (stores.Stream region shard position) reply (inl refuses) = ap (λ (m : Moment). m.core.plans) refuses.same
   after_store (stores.Stream region shard position) reply (inr steps) = ap (λ (c : CoreState). c.plans) steps.rest
+  after_store (stores.Trim region shard position) reply (inl trims) = ap (λ (m : Moment). m.core.plans) trims.rest
+  after_store (stores.Trim region shard position) reply (inr fails) = ap (λ (m : Moment). m.core.plans) fails.rest
 
   after_switch : (word : LinkWord) (whole : Bool) (place : LinkPlace) (reply : Reply) → AnswersSwitch word whole place old reply new → Stay
   after_switch word whole place (Node (Link told)) answers = ap (λ (m : Moment). m.core.plans) answers.2

@@ -1,22 +1,31 @@
--- The lines of stores: streams, repairs, settles and audits.
-use Rattle.std.proofs.Common.{◌≡◌, ℕ, Bool, true, false, List, [], ◌∷◌, Option, Some, None, Result, Ok, Err, refl, ap, inl, inr}
-use Rattle.std.specs.Prelude.{MatchBool}
+-- The lines of stores: streams, trims, repairs, settles and audits.
+use Rattle.std.proofs.Common.{◌≡◌, ◌∙◌, ℕ, Bool, true, false, List, [], ◌∷◌, Option, Some, None, Result, Ok, Err, refl, ap, inl, inr}
+use Rattle.std.proofs.lemmas.Bool.{and_parts, cases_Bool, eqb-true}
+use Rattle.std.specs.List.{AllByRecursion}
+use Rattle.std.specs.Prelude.{MatchBool, ◌==◌}
 use Rattle.cache_items.specs.Node.{Node}
 use Rattle.core_model.specs.Consistent.{AllMarksGoOn}
-use Rattle.core_model.specs.Fleet.{Fleet}
+use Rattle.core_model.specs.Emptied.{RegionTables}
+use Rattle.core_model.specs.Fleet.{Fleet, region_of, regions_of, serves_in_turn}
 use Rattle.core_model.specs.Stores.{region_store}
+use Rattle.core_model.specs.declared.named.Named.{Named}
+use Rattle.core_nodes.specs.Settling.{lies_behind}
+use Rattle.core_nodes.specs.Trimming.{behind_of, is_behind, names_behind}
 use Rattle.core_repairs.specs.Repairs.{IsNotRepaired, RepairsFirst, StopsRepair}
 use Rattle.core_repairs.specs.declared.repairs.Ran.{Ran}
 use Rattle.core_repairs.specs.declared.repairs.RepairFailed.{RepairFailed}
 use Rattle.core_repairs.specs.declared.repairs.RepairFailed.TheVariants as repair
 use Rattle.core_steps.specs.Streams.{ProcessesEntry, RefusesStream, StreamsOver, TakesAs, region_leader}
 use Rattle.core_steps.specs.World.{World}
+use Rattle.core_trims.specs.Trims.{ResetEach}
 use Rattle.edge_repair.specs.declared.refusal.RepairRefusal.{RepairRefusal}
 use Rattle.edge_repair.specs.declared.refusal.RepairRefusal.TheVariants.{KeeperFault, LinkFault, LogFull, OutOfMemory}
-use Rattle.headline_kept.proofs.Caches.{EachCache, each_so, leader_changes, none_changes, same_fleet}
+use Rattle.follower_cache.specs.Seen.{FollowerState}
+use Rattle.headline_kept.proofs.Caches.{EachCache, cache_empties, caches_then, each_so, leader_changes, none_changes, same_fleet}
 use Rattle.headline_kept.proofs.ItemOps.{delivered_keeps}
-use Rattle.headline_kept.proofs.NodeLines.{no_node, none_brought, stays_self}
-use Rattle.headline_kept.specs.Touches.{LeavesAllItems, LeavesItems}
+use Rattle.headline_kept.proofs.NamedLeaders.{all_of}
+use Rattle.headline_kept.proofs.NodeLines.{no_fleet, no_node, none_brought, stays_self}
+use Rattle.headline_kept.specs.Touches.{LeavesAllItems, LeavesItems, ServesIn}
 use Rattle.node_name.specs.declared.NodeName.{NodeName}
 use Rattle.replies.specs.declared.nodes.StreamVerdict.{StreamVerdict}
 use Rattle.replies.specs.declared.nodes.StreamVerdict.TheVariants as verdict
@@ -29,12 +38,14 @@ use Rattle.replies.specs.declared.reply.Reply.{Reply}
 use Rattle.request_check.specs.declared.checked.Checked.{Checked}
 use Rattle.request_check.specs.declared.checked.Checked.TheVariants as asks
 use Rattle.request_check.specs.declared.stores.CheckedStore.TheVariants as store
+use Rattle.served_shards.specs.Served.{low_at}
 use Rattle.tao_base.specs.declared.entry.Entry.{Entry}
 use Rattle.tao_base.specs.declared.id.StoreName.{StoreName}
 use Rattle.tao_core.specs.Calls.{world_of}
 use Rattle.tao_core.specs.Core.{Moment}
 use Rattle.tao_core.specs.Settling.{AnswersRepair}
 use Rattle.tao_core.specs.Streams.{AnswersStream, asked_stream}
+use Rattle.tao_core.specs.Trims.{AnswersTrim}
 use Rattle.topology.specs.Config.{Settings}
 use Rattle.topology.specs.States.{is_up}
 
@@ -91,6 +102,67 @@ module _ (tells : Bool) (region shard : ℕ) (position : Option ℕ) (old new : 
   pub stream_leaves : (reply : Reply) → AnswersStream tells (asked_stream region shard position) old reply new → LeavesAllItems tells Asked old new
   stream_leaves reply (inl master) = same_so (ap (λ (m : Moment). m.core.fleet) master.same)
   stream_leaves reply (inr into) = over_so into.outcome into.streams
+
+-- ---- a trim
+
+-- who lies behind in the log of a store is of its region, and serves its shard
+module _ (s : Settings) (store_at : StoreName) (least : ℕ) where
+  serves_behind : (name : NodeName) (low : ℕ) → is_behind s store_at least name low ≡ true → ServesIn s store_at.region store_at.shard name
+  serves_behind name low is =
+      let parts = and_parts (region_of name == store_at.region) (lies_behind s name store_at.shard low least) is in
+      record {
+        region_is = eqb-true (region_of name) store_at.region parts.0;
+        serves = (and_parts (serves_in_turn (regions_of s) name store_at.shard) _ parts.1).0;
+      }
+
+  all_serve : {N : Type 0} (node : N → Node) (nodes : List (Named N))
+      → AllByRecursion (ServesIn s store_at.region store_at.shard) (behind_of node s store_at least nodes)
+  all_serve node [] = tt
+  all_serve node (n ∷ ns) =
+      let low = low_at store_at.shard (node n.node).served in
+      elim (cases_Bool (is_behind s store_at least n.name low)) [
+        | inl behind ↦ rw behind (serves_behind n.name low behind, all_serve node ns)
+        | inr before ↦ rw before (all_serve node ns)
+      ]
+
+  pub behind_serve : (f : Fleet) → AllByRecursion (ServesIn s store_at.region store_at.shard) (names_behind s f store_at least)
+  behind_serve f =
+      all_of (ServesIn s store_at.region store_at.shard) (behind_of (λ (n : Node). n) s store_at least f.leaders)
+      (behind_of (λ (n : FollowerState). n.node) s store_at least f.followers)
+      (all_serve (λ (n : Node). n) f.leaders) (all_serve (λ (n : FollowerState). n.node) f.followers)
+
+module _ (tells : Bool) (region shard position : ℕ) (old new : Moment) where
+  abbrev Trims : Checked
+  Trims = asks.Store (store.Trim region shard position)
+
+  abbrev Left : NodeName → Node → Node → Type 0
+  Left name from to = LeavesItems old Trims [] name from to
+
+  left_self : (name : NodeName) (node : Node) → Left name node node
+  left_self name node = record { far = λ away. refl; near = λ key untouched. absurd untouched }
+
+  left_then : (name : NodeName) (from between to : Node) → Left name from between → Left name between to → Left name from to
+  left_then name from between to first second = record {
+    far = λ away. second.far away ∙ first.far away;
+    near = λ key untouched. absurd untouched;
+  }
+
+  -- each node that is reset is one at which a trim may change items
+  resets_leave : (over : RegionTables) (names : List NodeName) (start end : World) → AllByRecursion (ServesIn old.core.settings region shard) names
+      → ResetEach over names start end → EachCache Left start.fleet end.fleet
+  resets_leave over [] start end all same = same_fleet Left left_self start.fleet end.fleet (ap (λ (w : World). w.fleet) same)
+  resets_leave over (name ∷ names) start end all each =
+      caches_then Left Left Left start.fleet each.0.fleet end.fleet left_then (resets_leave over names start each.0 all.1 each.1)
+      (cache_empties Left left_self each.0.fleet end.fleet _ _ name
+      (λ from to begins. record { far = λ away. absurd (away all.0); near = λ key untouched. absurd untouched }) each.2.empties)
+
+  pub trim_leaves : (reply : Reply) → AnswersTrim tells (region_store region shard) position old reply new → LeavesAllItems tells Trims old new
+  trim_leaves reply (inl trims) =
+      let did = trims.trims in
+      none_brought tells Trims old new (resets_leave _ _ (record (world_of old) { keepers = new.keepers }) (world_of new)
+      (behind_serve old.core.settings (region_store region shard) did.least old.core.fleet) did.resets)
+  trim_leaves reply (inr fails) =
+      none_brought tells Trims old new (no_fleet Trims old new (ap (λ (m : Moment). m.core.fleet) fails.rest))
 
 -- ---- a repair
 

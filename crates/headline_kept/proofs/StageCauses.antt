@@ -35,12 +35,12 @@ use Rattle.read_plan.specs.declared.standing.Standing.TheVariants.{Looking, Aski
 use Rattle.replies.specs.declared.refusals.NodeRefused.TheVariants.{NoServer, NodeDown}
 use Rattle.replies.specs.declared.refusals.Refusal.{Refusal}
 use Rattle.replies.specs.declared.refusals.Refusal.TheVariants.{Memory, Node, Store}
-use Rattle.replies.specs.declared.refusals.StoreRefused.TheVariants.{KeeperFault, LinkFault, LogFull, SeqReused, ShardFull, StampFull, Unsettled}
+use Rattle.replies.specs.declared.refusals.StoreRefused.TheVariants.{KeeperFault, LinkFault, LogFull, SeqReused, TooOld, ShardFull, StampFull, Unsettled}
 use Rattle.replies.specs.declared.refusals.When.{When}
 use Rattle.replies.specs.declared.refusals.When.TheVariants.{Before}
 use Rattle.replies.specs.declared.reply.Reply.{Reply}
 use Rattle.replies.specs.declared.reply.Reply.TheVariants.{Refused}
-use Rattle.shard_tables.specs.Written.{AskedWrite, IsLogFull, IsReused, IsShardFull, IsStampFull}
+use Rattle.shard_tables.specs.Written.{AskedWrite, IsLogFull, IsReused, IsTooOld, IsShardFull, IsStampFull}
 use Rattle.shard_tables.specs.declared.leader_answer.LeaderAnswer.{LeaderAnswer}
 use Rattle.shard_tables.specs.declared.leader_answer.LeaderAnswer.TheVariants as leads
 use Rattle.shard_tables.specs.declared.read_out.ReadOut.{ReadOut}
@@ -85,6 +85,7 @@ pub record WriteTerms : Type 1 where
 
 module _ (t : WriteTerms) (old new : Outside) where
   abbrev pub WriteCause : Refusal → Type 0
+  WriteCause (Store (TooOld cut position)) = t.First × WhereTold t.tells (IsTooOld t.asked cut position)
   WriteCause (Store (SeqReused position)) = t.First × WhereTold t.tells (IsReused t.asked position)
   WriteCause (Store (ShardFull serial)) = t.First × WhereTold t.tells (IsShardFull t.asked serial)
   WriteCause (Store (StampFull number)) = t.First × WhereTold t.tells (IsStampFull t.asked number)
@@ -287,6 +288,7 @@ module _ (rules : Rules) (p q : Writing) (old new : World) where
     cause = (h.0, subst (λ n. Rose n new.link.faults) (past_faults led.passed old.link) h.1.carry.rose, told_before when none h.1.before);
     same = h.1.same.tables;
   }
+  commit_fails led (Store (TooOld cut position)) none h = record { cause = (none, h.0); same = h.1.same.tables }
   commit_fails led (Store (SeqReused position)) none h = record { cause = (none, h.0); same = h.1.same.tables }
   commit_fails led (Store (ShardFull serial)) none h = record { cause = (none, h.0); same = h.1.same.tables }
   commit_fails led (Store (StampFull number)) none h = record { cause = (none, h.0); same = h.1.same.tables }

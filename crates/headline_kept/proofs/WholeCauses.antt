@@ -32,11 +32,11 @@ use Rattle.read_plan.specs.declared.standing.Standing.TheVariants.{Looking, Aski
 use Rattle.replies.specs.declared.refusals.NodeRefused.TheVariants.{NoServer, NodeDown}
 use Rattle.replies.specs.declared.refusals.Refusal.{Refusal}
 use Rattle.replies.specs.declared.refusals.Refusal.TheVariants.{Memory, Node, Store}
-use Rattle.replies.specs.declared.refusals.StoreRefused.TheVariants.{KeeperFault, LinkFault, LogFull, SeqReused, ShardFull, StampFull}
+use Rattle.replies.specs.declared.refusals.StoreRefused.TheVariants.{KeeperFault, LinkFault, LogFull, SeqReused, TooOld, ShardFull, StampFull}
 use Rattle.replies.specs.declared.refusals.When.{When}
 use Rattle.replies.specs.declared.reply.Reply.{Reply}
 use Rattle.shard_tables.specs.Jobs.{OpensJob, job_with}
-use Rattle.shard_tables.specs.Written.{AnswersAs, AskedWrite, IsLogFull, IsReused, IsShardFull, IsStampFull, StandsIn, TableGains}
+use Rattle.shard_tables.specs.Written.{AnswersAs, AskedWrite, IsLogFull, IsReused, IsTooOld, IsShardFull, IsStampFull, StandsIn, TableGains}
 use Rattle.shard_tables.specs.declared.writes.Wrote.{Wrote}
 use Rattle.tao_base.specs.Writes.{write_shard}
 use Rattle.tao_base.specs.declared.entry.Entry.{Entry}
@@ -308,6 +308,7 @@ module _ (rules : Rules) (start : World) (p0 : Writing) (regions : HaveMasterReg
     by_log never Is none says = (before_entry p none, subst (λ a. WhereTold rules.tells (Is a)) (at_first never none) says)
 
     wide : p.refused ≡ None → (refusal : Refusal) → StageRefuses (stage_terms rules p old) old new refusal → Why (answered_entry p) refusal
+    wide never (Store (TooOld cut position)) h = by_log never (λ a. IsTooOld a cut position) h.cause.0 h.cause.1
     wide never (Store (SeqReused position)) h = by_log never (λ a. IsReused a position) h.cause.0 h.cause.1
     wide never (Store (ShardFull serial)) h = by_log never (λ a. IsShardFull a serial) h.cause.0 h.cause.1
     wide never (Store (StampFull number)) h = by_log never (λ a. IsStampFull a number) h.cause.0 h.cause.1

@@ -25,7 +25,7 @@ use Rattle.replies.specs.declared.refusals.Refusal.TheVariants.{Line, Memory, Na
 use Rattle.replies.specs.declared.refusals.SessionRefused.{SessionRefused}
 use Rattle.replies.specs.declared.refusals.SessionRefused.TheVariants.{NoSession, SessionFull, SessionThere}
 use Rattle.replies.specs.declared.refusals.StoreRefused.{StoreRefused}
-use Rattle.replies.specs.declared.refusals.StoreRefused.TheVariants.{KeeperFault, LinkFault, LogFull, SeqReused, ShardFull, StampFull, Unsettled}
+use Rattle.replies.specs.declared.refusals.StoreRefused.TheVariants.{KeeperFault, LinkFault, LogFull, SeqReused, TooOld, ShardFull, StampFull, Unsettled}
 use Rattle.replies.specs.declared.refusals.UnsettledWhy.{UnsettledWhy}
 use Rattle.replies.specs.declared.refusals.UnsettledWhy.TheVariants as why
 use Rattle.replies.specs.declared.reply.Reply.{Reply}
@@ -41,7 +41,7 @@ use Rattle.request_check.specs.declared.stores.CheckedStore.TheVariants as store
 use Rattle.requests.specs.declared.plans.PlanRequest.TheVariants as plan_request
 use Rattle.requests.specs.declared.request.Request.{Request}
 use Rattle.requests.specs.declared.request.Request.TheVariants as request
-use Rattle.shard_tables.specs.Written.{AskedWrite, IsLogFull, IsReused, IsShardFull, IsStampFull}
+use Rattle.shard_tables.specs.Written.{AskedWrite, IsLogFull, IsReused, IsTooOld, IsShardFull, IsStampFull}
 use Rattle.tao_base.specs.Writes.{write_shard}
 use Rattle.tao_core.specs.Asked.{asking_session, most_plans}
 use Rattle.tao_core.specs.Core.{CoreState, Moment}
@@ -198,6 +198,8 @@ UnsettledCause tells what shard told old new = ⊥
 
 -- what a refusal of a store comes of: what the log says of the write; or a fault, whose count is told and rose in this request
 abbrev pub StoreCause : Bool → Checked → Moment → StoreRefused → Moment → Type 0
+StoreCause tells what old (TooOld cut position) new =
+    OfWrite tells old.core.settings old.keepers (write_of old.core.plans what) (λ write. IsTooOld write cut position)
 StoreCause tells what old (SeqReused position) new =
     OfWrite tells old.core.settings old.keepers (write_of old.core.plans what) (λ write. IsReused write position)
 StoreCause tells what old (ShardFull serial) new =

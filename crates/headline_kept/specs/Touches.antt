@@ -1,10 +1,10 @@
 -- Items that stay as they were through a line, unless the line touches them.
-use Rattle.std.specs.Prelude.{ℕ, ◌≡◌, ◌≢◌, ◌<◌, ◌⊎◌, ◌-◌, ⊤, Bool, List, length, take, Option, Some, None, Result, Ok, Err}
+use Rattle.std.specs.Prelude.{ℕ, ◌≡◌, ◌≢◌, ◌<◌, ◌⊎◌, ◌-◌, ⊤, Bool, List, length, take, true, Option, Some, None, Result, Ok, Err}
 use Rattle.std.specs.List.{AllByRecursion}
 use Rattle.cache_items.specs.Node.{Items, Node, item_at}
 use Rattle.cache_items.specs.declared.item.Item.{Item}
 use Rattle.core_mail.specs.Inboxes.{Inboxes, WaitsAt}
-use Rattle.core_model.specs.Fleet.{ChangesNode, EachNode}
+use Rattle.core_model.specs.Fleet.{ChangesNode, EachNode, region_of, regions_of, serves_in_turn}
 use Rattle.core_model.specs.Items.{IsNotNamed, KeepsItem, KeepsUnlessLast}
 use Rattle.core_model.specs.Messages.{TakesRefill}
 use Rattle.core_model.specs.Stores.{master_log, region_store}
@@ -111,13 +111,19 @@ pub record IsAtRefill (old : Moment) (node name : NodeName) : Type 0 where
   pub takes : ChangesNode node (TakesRefill (Some refill)) old.core.fleet.followers left
   pub at : IsAtPlan old.core.states (Some (refill_plan old.core.settings node refill)) name
 
--- the line may change items at the node: a call or a stage there, a stream at the leader that its region prefers, a settle everywhere, and what is asked of a
--- node at that node. Other lines change none
+-- the node is one of the region, and serves the shard
+pub record ServesIn (s : Settings) (region shard : ℕ) (name : NodeName) : Type 0 where
+  pub region_is : region_of name ≡ region
+  pub serves : serves_in_turn (regions_of s) name shard ≡ true
+
+-- the line may change items at the node: a call or a stage there, a stream at the leader that its region prefers, a trim at each node of its region that
+-- serves the shard, a settle everywhere, and what is asked of a node at that node. Other lines change none
 abbrev pub IsAt : Moment → Checked → NodeName → Type 0
 IsAt old (asks.Call asked) name = IsAtCall old asked name
 IsAt old (asks.Plan (plan.Hold number asked)) name = IsAtCall old asked name
 IsAt old (asks.Plan (plan.Advance number)) name = IsAtPlan old.core.states (plan_at old.core.plans number) name
 IsAt old (asks.Store (store.Stream region shard position)) name = name ≡ preferred_leader old.core.states region shard
+IsAt old (asks.Store (store.Trim region shard position)) name = ServesIn old.core.settings region shard name
 IsAt old (asks.Store store.Settle) name = ⊤
 IsAt old (asks.Cache (cache.Deliver node message)) name = name ≡ node
 IsAt old (asks.Cache (cache.Again node message)) name = name ≡ node
@@ -154,12 +160,13 @@ IsApartFromPlan (Some (of.Write p)) brought key = IsNamedByNone key brought
 IsApartFromPlan None brought key = ⊤
 
 -- the line, which brings these entries, doesn't touch the key: a call or a stage is apart from it, a stream brings no entry that names it, a message that is
--- processed doesn't name it, a refill isn't of it, and it isn't evicted. A settle, and a node that goes down or comes up, may touch each key
+-- processed doesn't name it, a refill isn't of it, and it isn't evicted. A settle, a trim, and a node that goes down or comes up, may touch each key
 abbrev pub IsUntouched : Moment → Checked → List Entry → Key → Type 0
 IsUntouched old (asks.Call asked) brought key = IsApartFromCall asked brought key
 IsUntouched old (asks.Plan (plan.Hold number asked)) brought key = IsApartFromCall asked brought key
 IsUntouched old (asks.Plan (plan.Advance number)) brought key = IsApartFromPlan (plan_at old.core.plans number) brought key
 IsUntouched old (asks.Store (store.Stream region shard position)) brought key = IsNamedByNone key brought
+IsUntouched old (asks.Store (store.Trim region shard position)) brought key = ⊥
 IsUntouched old (asks.Store store.Settle) brought key = ⊥
 IsUntouched old (asks.Cache (cache.Deliver node message)) brought key = IsNotInMessage node message key old.core.mail
 IsUntouched old (asks.Cache (cache.Again node message)) brought key = IsNotInMessage node message key old.core.mail

@@ -130,7 +130,7 @@ goes_through : (s : Settings) (began : Begun) (write : CheckedWrite) (start : Lo
     → WritesThrough s began write start p old → PassesStage (rules_of true s) (of.Write p) old (of.Write q) new
     → WritesThrough s began write start q new
 goes_through s began write start p q old new through stage =
-    let grows = each_grows s old.keepers.told new.keepers.told stage.on.grows.logs in
+    let grows = each_grows s old.keepers.told new.keepers.told stage.on.grows.on.logs in
     record {
       so = writes_on s p q old new began write start through.so
           (record { grows = grows; was = through.are.stores.kept refl; now = stage.on.consistent.stores.kept refl }) through.under through.grew stage.steps;

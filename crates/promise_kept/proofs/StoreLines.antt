@@ -1,7 +1,7 @@
--- The lines of stores: repairs, settles, audits and streams.
+-- The lines of stores: repairs, settles, audits, streams and trims.
 use Rattle.std.proofs.Common.{◌≡◌, ℕ, ◌<◌, true, Some, None, Result, Ok, Err, length, refl, sym, ap, ◌∙◌, subst, inl, inr}
 use Rattle.std.specs.Prelude.{Option}
-use Rattle.core_model.specs.Stores.{master_of, master_store, stores_in}
+use Rattle.core_model.specs.Stores.{master_of, master_store, region_store, stores_in}
 use Rattle.core_nodes.specs.Streams.{StreamsTo}
 use Rattle.core_repairs.specs.declared.repairs.Ran.{Ran}
 use Rattle.core_repairs.specs.declared.repairs.RepairFailed.{RepairFailed}
@@ -19,6 +19,7 @@ use Rattle.promise_kept.proofs.Repaired.{SaysJobs, repair_merges, repair_says}
 use Rattle.promise_kept.proofs.Settled.{settled_changes, settled_now, settled_says, settles_now, unsettled, unsettled_keeps}
 use Rattle.promise_kept.specs.Lines.{GoesOnUsable, KeepsLine, StepsPlainly}
 use Rattle.promise_kept.specs.Seen.{IsPlainOf, IsSettledSince, stores_at}
+use Rattle.replies.specs.declared.nodes.NodeReply.TheVariants as node
 use Rattle.replies.specs.declared.nodes.StreamVerdict.{StreamVerdict}
 use Rattle.replies.specs.declared.nodes.StreamVerdict.TheVariants as verdict
 use Rattle.replies.specs.declared.nodes.Streamed.{Streamed}
@@ -27,12 +28,12 @@ use Rattle.replies.specs.declared.refusals.Refusal.{Refusal}
 use Rattle.replies.specs.declared.refusals.Refusal.TheVariants.{Memory, Node as OfNode, Store as OfStore}
 use Rattle.replies.specs.declared.refusals.StoreRefused.TheVariants as refused
 use Rattle.replies.specs.declared.reply.Reply.{Reply}
-use Rattle.replies.specs.declared.reply.Reply.TheVariants.{Audited, Refused, Settled}
+use Rattle.replies.specs.declared.reply.Reply.TheVariants.{Audited, Node, Refused, Settled}
 use Rattle.request_check.specs.declared.checked.Checked.{Checked}
 use Rattle.request_check.specs.declared.checked.Checked.TheVariants as asks
 use Rattle.request_check.specs.declared.checked.CheckedRead.{CheckedRead}
 use Rattle.request_check.specs.declared.stores.CheckedStore.{CheckedStore}
-use Rattle.request_check.specs.declared.stores.CheckedStore.TheVariants.{Audit, Repair, Settle, Stream}
+use Rattle.request_check.specs.declared.stores.CheckedStore.TheVariants.{Audit, Repair, Settle, Stream, Trim}
 use Rattle.tao_base.specs.Queries.{query_shard}
 use Rattle.tao_base.specs.declared.entry.Entry.{Entry}
 use Rattle.tao_base.specs.declared.id.StoreName.{StoreName}
@@ -42,7 +43,9 @@ use Rattle.tao_core.specs.Core.{Moment}
 use Rattle.tao_core.specs.Settling.{AnswersRepair, AnswersSettle, repaired_as}
 use Rattle.tao_core.specs.StoreReplies.{AnswersAudit, IsAudit, log_for}
 use Rattle.tao_core.specs.Streams.{AnswersStream, asked_stream, streamed_as}
-use Rattle.tao_keeper.specs.Table.{Stays, Table, Tables}
+use Rattle.tao_core.specs.Trims.{AnswersTrim}
+use Rattle.tao_keeper.proofs.Growing.{same_or_other}
+use Rattle.tao_keeper.specs.Table.{Becomes, Stays, Table, Tables, after_cut}
 use Rattle.topology.specs.Config.{Settings}
 use Rattle.tao_schema.specs.Schema.{types_of}
 use Rattle.topology.specs.Choices.{master_region}
@@ -221,6 +224,42 @@ module _ (region shard : ℕ) (position : Option ℕ) (old new : Moment) (plain 
 stream_line : (region shard : ℕ) (position : Option ℕ) → KeepsLine (asks.Store (Stream region shard position))
 stream_line region shard position old new plain reply is line = stream_steps region shard position old new plain is line.on reply line.answers
 
+-- ---- trims
+
+-- a log that is cut keeps its entries, and so does every other
+cut_keeps : (old new : Tables) (at : StoreName) (upto : ℕ) → Becomes old new at (after_cut (old at) upto) → (x : StoreName) → (new x).log ≡ (old x).log
+cut_keeps old new at upto becomes x = elim (same_or_other x at) [
+  | inl is ↦ subst (λ n. (new n).log ≡ (old n).log) (sym is) (ap (λ (t : Table). t.log) becomes.here)
+  | inr other ↦ ap (λ (t : Table). t.log) (becomes.others x other)
+]
+
+module _ (region shard position : ℕ) (old new : Moment) (plain : Plain) (is : IsPlainOf old plain) (on : GoesOnUsable old new) where
+  abbrev AskedTrim : Checked
+  AskedTrim = asks.Store (Trim region shard position)
+
+  -- it says nothing of the plain state
+  trim_so : (reply : Reply) → KeepsCalls old new → (stores_at new).logs ≡ plain.stores.logs
+      → settled_after plain reply (stores_at new).logs ≡ plain.settled → StepsPlainly (Some AskedTrim) old plain reply new
+  trim_so reply keeps same none =
+      steps_so old new plain is on keeps AskedTrim reply tt same (λ plan. refl) (λ session. refl)
+      (subst (IsSettledSince new) (sym none) (settled_rests old new on plain.settled is.settled))
+
+  trim_steps : (reply : Reply) → AnswersTrim true (region_store region shard) position old reply new → StepsPlainly (Some AskedTrim) old plain reply new
+  trim_steps reply (inl trims) =
+      let s = old.core.settings in
+      let own = logs_stay s old.keepers.told new.keepers.told
+      (λ n. cut_keeps old.keepers.told new.keepers.told (region_store region shard) trims.trimmed.cut (trims.trims.tables refl) (master_store s n)) in
+      subst (λ r. StepsPlainly (Some AskedTrim) old plain r new) (sym trims.reply_is)
+      (trim_so (Node (node.Trimmed trims.trimmed)) (keeps_calls old new (ap (λ (m : Moment). m.core) trims.rest))
+      (ap (λ (st : Stores). st.logs) (stores_are old new on) ∙ own ∙ ap (λ (st : Stores). st.logs) (sym is.stores)) refl)
+  trim_steps reply (inr fails) =
+      subst (λ r. StepsPlainly (Some AskedTrim) old plain r new) (sym fails.reply_is)
+      (trim_so (Refused fails.refusal) (keeps_core old new (ap (λ (m : Moment). m.core) fails.rest))
+      (same_stores old new plain is on (fails.tables refl)) refl)
+
+trim_line : (region shard position : ℕ) → KeepsLine (asks.Store (Trim region shard position))
+trim_line region shard position old new plain reply is line = trim_steps region shard position old new plain is line.on reply line.answers
+
 -- ---- all of them
 
 pub store_line : (asked : CheckedStore) → KeepsLine (asks.Store asked)
@@ -228,3 +267,4 @@ store_line (Repair shard) = repair_line shard
 store_line Settle = settle_line
 store_line (Audit call) = audit_line call
 store_line (Stream region shard position) = stream_line region shard position
+store_line (Trim region shard position) = trim_line region shard position

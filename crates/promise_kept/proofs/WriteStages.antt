@@ -27,7 +27,7 @@ use Rattle.replies.specs.declared.calls.ScheduledWhy.{ScheduledWhy}
 use Rattle.replies.specs.declared.calls.ScheduledWhy.TheVariants as why
 use Rattle.replies.specs.declared.refusals.Refusal.{Refusal}
 use Rattle.replies.specs.declared.refusals.Refusal.TheVariants.{Memory, Store}
-use Rattle.replies.specs.declared.refusals.StoreRefused.TheVariants.{KeeperFault, LinkFault, LogFull, SeqReused, ShardFull, StampFull, Unsettled}
+use Rattle.replies.specs.declared.refusals.StoreRefused.TheVariants.{KeeperFault, LinkFault, LogFull, SeqReused, TooOld, ShardFull, StampFull, Unsettled}
 use Rattle.replies.specs.declared.reply.Reply.{Reply}
 use Rattle.replies.specs.declared.reply.Reply.TheVariants.{Refused}
 use Rattle.request_check.specs.declared.checked.CheckedWrite.{CheckedWrite}
@@ -176,6 +176,7 @@ refuses_none : (s : Settings) (sent : SentWrite) (refusal : Refusal) (old new : 
 refuses_none s sent (Memory position) old new h = record { position_is = h.0; tables = h.1.same.tables }
 refuses_none s sent (Store (LinkFault count when)) old new h =
     record { position_is = subst (λ w. refused_at (Store (LinkFault count w)) ≡ 0) (sym h.1.before) refl; tables = h.1.same.tables }
+refuses_none s sent (Store (TooOld cut position)) old new h = record { position_is = refl; tables = h.1.same.tables }
 refuses_none s sent (Store (SeqReused position)) old new h = record { position_is = refl; tables = h.1.same.tables }
 refuses_none s sent (Store (ShardFull serial)) old new h = record { position_is = refl; tables = h.1.same.tables }
 refuses_none s sent (Store (StampFull number)) old new h = record { position_is = refl; tables = h.1.same.tables }

@@ -1,4 +1,4 @@
--- A core goes on serving after a request: lines stay, and only logs of the configuration's stores grow.
+-- A core goes on serving after a request: lines stay, logs only grow, and only tables of the configuration's stores change.
 use Rattle.std.proofs.Common.{◌≡◌, ◌⊎◌, Bool, true, length, Some, Ok, unwrap_or, sym, ap, subst, ◌∙◌, inl, inr, arith}
 use Rattle.std.proofs.lemmas.Bool.{cases_lt}
 use Rattle.config_json.specs.Config.{config_in}
@@ -7,9 +7,8 @@ use Rattle.replies.specs.declared.reply.Reply.{Reply}
 use Rattle.requests.specs.declared.request.Request.{Request}
 use Rattle.tao_base.specs.declared.id.StoreName.{StoreName}
 use Rattle.tao_core.specs.Core.{CoreState, IsCoreOf, StaysUsable, moment_of}
-use Rattle.core_model.proofs.KeptStores.{kept_stays}
-use Rattle.core_model.specs.Growing.{StoresGrow}
-use Rattle.core_model.specs.Stores.{AreKeptIn, IsConfiguredStore}
+use Rattle.core_model.specs.Growing.{TablesGoOn}
+use Rattle.core_model.specs.Stores.{AreInOrder, IsConfiguredStore}
 use Rattle.core_nodes.proofs.OpenLemmas.{all_first}
 use Rattle.tao_core.specs.Replies.{AnswersRequest}
 use Rattle.tao_keeper.specs.Table.{Tables, OpensAs}
@@ -20,7 +19,7 @@ use Rattle.core_nodes.specs.Outside.{Outside}
 use Rattle.tao_top.specs.Step.{AnswersLine}
 use Rattle.topology.specs.Config.{Settings}
 
-opened_grown : (tells : Bool) (s : Settings) (old new : Tables) → StoresGrow tells s old new → tells ≡ true → AreOpenedWith s old → AreOpenedWith s new
+opened_grown : (tells : Bool) (s : Settings) (old new : Tables) → TablesGoOn tells s old new → tells ≡ true → AreOpenedWith s old → AreOpenedWith s new
 opened_grown tells s old new only told opened = λ at here.
     let o = opened at here in
     record { line = o.line; first = only.lines told at ∙ o.first; configured = o.configured }
@@ -39,10 +38,10 @@ first_or_none s = elim (cases_lt 0 (length s.regions)) [
   | inr none ↦ inr (λ at is. let here = is.region in absurd (omega (arith, none, here)))
 ]
 
--- with tables of a core that serves, which are kept, a run may begin as before: with the core's configuration, or with tables that didn't change
-still_grown : (tells : Bool) (s : Settings) (old new : Tables) → StoresGrow tells s old new → tells ≡ true → AreOpenedWith s old → AreKeptIn s new
+-- with tables of a core that serves, which are in order, a run may begin as before: with the core's configuration, or with tables that didn't change
+still_grown : (tells : Bool) (s : Settings) (old new : Tables) → TablesGoOn tells s old new → tells ≡ true → AreOpenedWith s old → AreInOrder s new
     → StillBegin old new
-still_grown tells s old new only told opened kept line may t configured ready = elim (first_or_none s) [
+still_grown tells s old new only told opened order line may t configured ready = elim (first_or_none s) [
   | inl here ↦
       let taken = taken_rules line t configured in
       let there : IsConfiguredStore t first_store = record { region = taken.some; shard = taken.shards } in
@@ -51,10 +50,11 @@ still_grown tells s old new only told opened kept line may t configured ready = 
       let same_line : o.line ≡ line = sym (ap (λ l. unwrap_or l line) now) ∙ ready first_store (all_first t first_store there) in
       let first : config_in line ≡ Ok s = subst (λ l. config_in l ≡ Ok s) same_line o.configured in
       let same_settings : s ≡ t = cc (first, configured) in
-      subst (λ u. AreKeptIn u new) same_settings kept
+      subst (λ u. AreInOrder u new) same_settings order
   | inr none ↦
       let same : (at : StoreName) → new at ≡ old at = λ at. only.others told at (none at) in
-      kept_stays t old new same (may t configured (λ at first. subst (λ table. OpensAs Ready table line) (same at) (ready at first)))
+      let one : new ≡ old = λ i at. same at i in
+      subst (AreInOrder t) (sym one) (may t configured (λ at first. subst (λ table. OpensAs Ready table line) (same at) (ready at first)))
 ]
 
 -- ---- a request that is answered, where the core stands within a value
@@ -71,7 +71,7 @@ module _ (tells : Bool) (core within next : CoreState) (old new : Outside) (is :
             (record { before = subst (IsCoreOf tells old.keepers.told) (sym is) before; after = usable; answers = answers }),
       )
 
-  module _ (serving : MayServe tells core old.keepers.told) (grows : StoresGrow tells within.settings old.keepers.told new.keepers.told)
+  module _ (serving : MayServe tells core old.keepers.told) (grows : TablesGoOn tells within.settings old.keepers.told new.keepers.told)
       (of_core : IsCoreOf tells new.keepers.told next) where
     opened : tells ≡ true → AreOpenedWith within.settings old.keepers.told
     opened told = subst (λ c. AreOpenedWith c.settings old.keepers.told) (sym is) (serving.opened told)
@@ -83,10 +83,14 @@ module _ (tells : Bool) (core within next : CoreState) (old new : Outside) (is :
           (opened_grown tells within.settings old.keepers.told new.keepers.told grows told (opened told));
     }
 
+    -- its tables are in order still
+    order : tells ≡ true → AreInOrder within.settings new.keepers.told
+    order told =
+        let stores = of_core.is_consistent.consistent.stores in
+        subst (λ s. AreInOrder s new.keepers.told) settings (record { kept = stores.kept told; cuts = stores.cuts told })
+
     pub call_leaves : LeavesTables tells old.keepers new.keepers
     call_leaves = record {
       histories = grows.logs;
-      still = λ told.
-          still_grown tells within.settings old.keepers.told new.keepers.told grows told (opened told)
-          (subst (λ s. AreKeptIn s new.keepers.told) settings (of_core.is_consistent.consistent.stores.kept told));
+      still = λ told. still_grown tells within.settings old.keepers.told new.keepers.told grows told (opened told) (order told);
     }

@@ -332,6 +332,8 @@ module _ (old new : Moment) (held : List ℕ) (are : ArePlans held old.core.plan
   after_store (stores.Audit call) reply answers = same (ap (λ (m : Moment). m.core.plans) answers.1)
   after_store (stores.Stream region shard position) reply (inl refuses) = same (ap (λ (m : Moment). m.core.plans) refuses.same)
   after_store (stores.Stream region shard position) reply (inr steps) = same (ap (λ (c : CoreState). c.plans) steps.rest)
+  after_store (stores.Trim region shard position) reply (inl trims) = same (ap (λ (m : Moment). m.core.plans) trims.rest)
+  after_store (stores.Trim region shard position) reply (inr fails) = same (ap (λ (m : Moment). m.core.plans) fails.rest)
 
   after_switch : (word : LinkWord) (whole : Bool) (place : LinkPlace) (reply : Reply) → AnswersSwitch word whole place old reply new → Now held
   after_switch word whole place (Node (Link told)) answers = same (ap (λ (m : Moment). m.core.plans) answers.2)

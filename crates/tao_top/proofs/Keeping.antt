@@ -11,11 +11,13 @@ use Rattle.tao_base.specs.declared.entry.Entry.{Entry}
 use Rattle.tao_base.specs.declared.id.StoreName.{StoreName}
 use Rattle.tao_core.specs.Core.{CoreState, IsCoreOf}
 use Rattle.core_nodes.specs.Opening.{AreOpened, IsFirst, IsOpened, RefusesOpening}
-use Rattle.core_nodes.proofs.OpenedLogs.{opened_keep}
+use Rattle.core_nodes.proofs.OpenedLogs.{opened_grow, opened_keep}
 use Rattle.core_nodes.proofs.OpenLemmas.{all_first, first_or_other}
 use Rattle.core_model.proofs.KeptStores.{kept_same}
+use Rattle.core_model.proofs.PastCuts.{come_on}
 use Rattle.core_model.specs.Stores.{master_log, master_store, store_count, store_place, stores_in}
 use Rattle.tao_keeper.proofs.Growing.{grow_in_turn, stays_grow}
+use Rattle.tao_keeper.specs.Growing.{CutsStay}
 use Rattle.tao_keeper.specs.Table.{Table, Tables, OpensAs, after_open, empty_table}
 use Rattle.tao_keeper.specs.declared.keeper.Opened.TheVariants.{Ready}
 use Rattle.tao_schema.specs.Schema.{types_of}
@@ -49,18 +51,31 @@ no_job false job none = refl
 
 -- with stores that were not opened yet a run may begin with any line
 pub empty_kept : (tables : Tables) → ((at : StoreName) → tables at ≡ empty_table) → MayBeginAny tables
-empty_kept tables empty line s configured ready =
-    empty_stores_are_kept.kept (types_of s.schema) (stores_in s tables)
-    (λ shard. no_logs (master_log s tables) 0 s.shards shard (λ i. ap (λ t. t.log) (empty (master_store s i))))
-    (λ shard position. no_job (nat_lt shard s.shards) ((tables (master_store s shard)).jobs position)
-    (ap (λ t. t.jobs position) (empty (master_store s shard))))
-    (λ shard. omega arith)
+empty_kept tables empty line s configured ready = record {
+  kept = empty_stores_are_kept.kept (types_of s.schema) (stores_in s tables)
+      (λ shard. no_logs (master_log s tables) 0 s.shards shard (λ i. ap (λ t. t.log) (empty (master_store s i))))
+      (λ shard position. no_job (nat_lt shard s.shards) ((tables (master_store s shard)).jobs position)
+      (ap (λ t. t.jobs position) (empty (master_store s shard))))
+      (λ shard. omega arith);
+  cuts = record { come = λ at other here there same. (let none : (tables other).cut ≡ 0 = ap (λ (t : Table). t.cut) (empty other) in omega (arith, none)) };
+}
+
+-- what opens stores cuts no log
+cuts_stay_opened : (s : Settings) (line : List ℕ) (count : ℕ) (old new : Tables) → AreOpened s line count old new → CutsStay true old new
+cuts_stay_opened s line count old new opened = record { cuts = λ told at. by at (first_or_other s count at) }
+  where
+    by : (at : StoreName) → IsFirst s count at ⊎ (IsFirst s count at → ⊥) → (new at).cut ≡ (old at).cut
+    by at (inl first) = ap (λ (t : Table). t.cut) (opened.stores at first)
+    by at (inr none) = ap (λ (t : Table). t.cut) (opened.others at none)
 
 -- with stores that were opened a run may begin as before
 pub still_opened : (s : Settings) (line : List ℕ) (count : ℕ) (old new : Tables) → AreOpened s line count old new → StillBegin old new
 still_opened s line count old new opened other may t configured ready =
-    kept_same t old new (opened_keep s line count old new opened)
-    (may t configured (λ at first. ready_at at (first_or_other s count at) (ready at first)))
+    let was = may t configured (λ at first. ready_at at (first_or_other s count at) (ready at first)) in
+    record {
+      kept = kept_same t old new (opened_keep s line count old new opened) was.kept;
+      cuts = come_on t old new (opened_grow true s line count old new (λ told. opened)) (cuts_stay_opened s line count old new opened) was.cuts;
+    }
   where
     ready_at : (at : StoreName) → IsFirst s count at ⊎ (IsFirst s count at → ⊥)
         → OpensAs Ready (new at) other → OpensAs Ready (old at) other

@@ -228,6 +228,8 @@ module _ (old new : Moment) (opened : List ℕ) (are : AreSessions opened old.co
   after_store (stores.Audit call) reply answers = same (ap (λ (m : Moment). m.core.sessions) answers.1)
   after_store (stores.Stream region shard position) reply (inl refuses) = same (ap (λ (m : Moment). m.core.sessions) refuses.same)
   after_store (stores.Stream region shard position) reply (inr steps) = same (ap (λ (c : CoreState). c.sessions) steps.rest)
+  after_store (stores.Trim region shard position) reply (inl trims) = same (ap (λ (m : Moment). m.core.sessions) trims.rest)
+  after_store (stores.Trim region shard position) reply (inr fails) = same (ap (λ (m : Moment). m.core.sessions) fails.rest)
 
   after_switch : (word : LinkWord) (whole : Bool) (place : LinkPlace) (reply : Reply) → AnswersSwitch word whole place old reply new → Now opened
   after_switch word whole place (Node (Link told)) answers = same (ap (λ (m : Moment). m.core.sessions) answers.2)

@@ -12,7 +12,8 @@ use Rattle.tao_keeper.specs.Table.{Table, Tables}
 use Rattle.tao_top.specs.Served.{LinesBegin}
 use Rattle.topology.specs.Config.{Settings}
 
--- a run may begin with the line: where it is a configuration, and every store takes it, the logs are sound with its types, and covered
+-- a run may begin with the line: where it is a configuration, and every store takes it, the logs are sound with its types, and covered, and each store has
+-- come to the cuts of its shard's logs
 abbrev pub MayBegin : List ℕ → Tables → Type 0
 MayBegin line tables = (s : Settings) → config_in line ≡ Ok s → MayOpen s line tables
 

@@ -4,7 +4,7 @@ use Rattle.tao_keeper.specs.KeeperState.{IsLater}
 use Rattle.tao_base.specs.declared.id.StoreName.{StoreName}
 use Rattle.config_json.specs.Config.{config_in}
 use Rattle.core_model.specs.Consistent.{GoesOn}
-use Rattle.core_model.specs.Growing.{StoresGrow}
+use Rattle.core_model.specs.Growing.{TablesGoOn}
 use Rattle.core_nodes.specs.Beginning.{AreAtStores}
 use Rattle.config_json.specs.declared.refusal.ConfigRefusal.TheVariants.{BadConfig}
 use Rattle.graph_model.specs.Told.{WhereTold}
@@ -137,13 +137,13 @@ AnswersNoRequest (BadLine field) reply = reply ≡ Refused (Line (line.BadLine f
 AnswersNoRequest (TooLarge bytes pairs) reply = reply ≡ Refused (Line (line.TooLarge bytes pairs))
 AnswersNoRequest OutOfMemory reply = ⊥
 
--- what each request keeps: the configuration stays, the nodes go on, who comes up is at its store, of tables only logs of the configuration's stores
--- grow, and the core may be used with the keepers' tables as they are then
+-- what each request keeps: the configuration stays, the nodes go on, who comes up is at its store, logs only grow, no table but those of the
+-- configuration's stores changes, and no line does, and the core may be used with the keepers' tables as they are then
 pub record KeepsServing (tells : Bool) (old new : Moment) : Type 0 where
   pub settings : new.core.settings ≡ old.core.settings
   pub goes : GoesOn old.core.fleet new.core.fleet
   pub comes : ComeUp tells new.keepers.told old.core new.core
-  pub grows : StoresGrow tells old.core.settings old.keepers.told new.keepers.told
+  pub grows : TablesGoOn tells old.core.settings old.keepers.told new.keepers.told
   pub of_core : IsCoreOf tells new.keepers.told new.core
 
 -- what the reply to what is asked says, and what the line keeps

@@ -119,7 +119,8 @@ pub fn run<R: Source, S: Sink, K: Keeper, L: Link>(
     keepers: &mut K,
     link: &mut L,
 ) -> Status
-    // Where every store takes the first line, their logs are sound with it, and covered. A later run may begin with each line with which this one might.
+    // Where every store takes the first line, their logs are sound with it, and covered, and each store has come to the cuts of its shard's logs. A later run
+    // may begin with each line with which this one might.
     requires kept { WhereTold K.TELLS (MayRun (R.left input.old) (K.state keepers.old).told) }
 
     // What a caller is promised: each line of the input, or each request that the run makes, and its reply are a step of it, one after another.

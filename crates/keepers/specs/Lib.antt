@@ -1,0 +1,3 @@
+pub mod KeeperLaws
+pub mod Shown
+pub mod Steady

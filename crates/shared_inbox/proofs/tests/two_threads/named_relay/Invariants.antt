@@ -1,0 +1,5 @@
+use Rattle.shared_inbox.proofs.tests.two_threads.named_relay.Given as goal
+
+-- the log that was just made
+abbrev pub ghosts-relay : goal.ghosts-relay
+ghosts-relay g a = record { log = λ _. a.note.log }

@@ -10,8 +10,9 @@ keeps what was measured in a file; --plot draws such a file, and measures nothin
 Prints the lines that a second takes of 20,000 mixed calls, what a call costs as the log of its shard
 grows, beside what the same tables take in sqlite3 in memory, what an edge costs that a range goes past,
 what adds and ranges take over a file beside sqlite3's own, what the same calls take from a slave region
-beside the master's, what a generated run takes as its calls grow, and, with a yardstick, what reads take that the follower answers of what it holds, as
-ratios to the yardstick's time on the same script (below 1 TAO is faster), and where it goes.
+beside the master's, what a generated run takes as its calls grow, what trims cost, what opening and
+auditing a file costs with its log old, and, with a yardstick, what reads take that the follower answers
+of what it holds, as ratios to the yardstick's time on the same script (below 1 TAO is faster), and where it goes.
 
 Those ratios are of processor time, which other work on the machine changes least: the least of some runs,
 ours and the yardstick's in turn.
@@ -37,8 +38,8 @@ def line(**fields):
     return json.dumps(fields, separators=(",", ":"))
 
 
-def front(shards):
-    yield line(assocs=[{"name": "likes"}, {"name": "follows"}], objects=["user"], regions=[REGION], shards=shards)
+def front(shards, **more):
+    yield line(assocs=[{"name": "likes"}, {"name": "follows"}], objects=["user"], regions=[REGION], shards=shards, **more)
     yield line(do="open", session=1, region="east", tier="t1")
 
 
@@ -346,6 +347,43 @@ def generated(program):
         before = took
 
 
+def trim(position):
+    return line(do="trim", region=MASTER, shard=0, position=position)
+
+
+def trimmed_adds(count, every):
+    """Adds, and after so many of them a trim of all that was written; none where that is 0."""
+    for number, asked in enumerate(adds(count), start=1):
+        yield asked
+        if every and number % every == 0:
+            yield trim(number)
+
+
+def in_two_parts(tao, count, every, entries):
+    """Prints what trims cost a run in memory, and what opening and auditing a file costs with its log live and with it old."""
+    for steps in (0, every):
+        child = subprocess.Popen(tao, stdin=subprocess.PIPE, stdout=subprocess.DEVNULL)
+        child.stdin.write(script(front(1, log_max=count), trimmed_adds(count, steps)))
+        child.stdin.close()
+        _, _, used = os.wait4(child.pid, 0)
+        trims = f"a trim after each {steps:,}" if steps else "no trim"
+        print(f"{count:,} adds, {trims}: {used.ru_utime:.2f} s of a processor, {used.ru_maxrss // 1024:,} MiB")
+    audited = line(do="audit", request=json.loads(next(ranges(1))))
+    with tempfile.TemporaryDirectory() as folder:
+        path = os.path.join(folder, "graph.db")
+        over = [*tao, "--sql", path]
+        begun = [*front(1, log_max=entries)]
+        subprocess.run(over, input=script(begun, adds(entries)), stdout=subprocess.DEVNULL, check=True)
+        for said in ("live", "old"):
+            opened = best(over, script(begun))
+            read = best(over, script(begun, [audited])) - opened
+            print(f"a file with {entries:,} entries, all {said}: opened in {opened:.3f} s, and audited in {read:.3f} s")
+            start = time.perf_counter()
+            subprocess.run(over, input=script(begun, [trim(entries)]), stdout=subprocess.DEVNULL, check=True)
+            if said == "live":
+                print(f"and cut in {time.perf_counter() - start - opened:.3f} s")
+
+
 def measure(program, yardstick):
     """Measures and prints everything. What is drawn is answered."""
     tao = [program, "run"]
@@ -357,6 +395,7 @@ def measure(program, yardstick):
     over_file(tao, 4_000, 20_000)
     from_regions(tao, 16_000, 60_000)
     generated(program)
+    in_two_parts(tao, 60_000, 1_000, 20_000)
     held = over_yardstick(tao, [yardstick], 200_000) if yardstick else []
     return {"growth": growth, "held": held}
 

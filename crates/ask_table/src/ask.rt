@@ -28,6 +28,7 @@ impl AskNo {
         AskNo { number }
     }
 
+    /// The number by which the table finds the ask.
     pub fn number(&self) -> u64
         ensures { result ≡ self.now }
     {

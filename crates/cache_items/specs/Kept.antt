@@ -35,7 +35,7 @@ kept_of (Some ask) t version as_of = admits_found (ask_at ask t) version as_of
 abbrev pub own_kept_of : ℕ → ℕ → Kept
 own_kept_of top as_of = if nat_lt as_of top then Mark as_of top else Yes
 
--- the reason is that one, or want of memory where the fill would be kept
+-- the reason is that one, or that there was no memory where the fill would be kept
 abbrev pub GivesKept : Kept → Kept → Type 0
 GivesKept Yes kept = (kept ≡ Yes) ⊎ (kept ≡ Memory)
 GivesKept NoAsk kept = kept ≡ NoAsk

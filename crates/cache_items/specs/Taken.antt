@@ -23,7 +23,7 @@ changed_content (ListIs prefix) change bound = ListIs (prefix_after change prefi
 abbrev pub changed_item : Item → Change → ℕ → ℕ → Item
 changed_item item change after bound = record { version = after; content = changed_content item.content change bound }
 
--- an item of the changeset's version or more stays, one of the version below takes the change, or goes where memory is wanted, and an older one goes
+-- an item of the changeset's version or more stays, one of the version below takes the change, or goes where there is no memory, and an older one goes
 abbrev pub TakesChange : ℕ → Option Item → SeenChange → Items → Items → Type 0
 TakesChange bound None c old new = new ≡ old
 TakesChange bound (Some item) c old new =

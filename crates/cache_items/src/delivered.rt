@@ -72,6 +72,7 @@ impl DroppedLists {
         let _ = self.rows.push(row);
     }
 
+    /// The rows, in the order in which the message names the lists.
     pub fn as_slice(&self) -> &[DroppedList]
         ensures { result.now ≡ self.now }
     {

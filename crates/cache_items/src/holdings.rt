@@ -64,7 +64,7 @@ impl Model for Holdings {
 impl Holdings {
     /// Nothing is held and no ask is open, and everything up to these positions is processed.
     ///
-    /// Takes the memory of the asks and of a window of marks for each shard. The one error is want of
+    /// Takes the memory of the asks and of a window of marks for each shard. The one error is out of
     /// memory.
     pub fn make(
         alloc: Global,
@@ -101,7 +101,7 @@ impl Holdings {
         let _ = self.asks.is_full();
     }
 
-    /// A second note of the log of a served shard. The one error is want of memory.
+    /// A second note of the log of a served shard. The one error is out of memory.
     pub fn note(&mut self, shard: u16) -> Result<Note, OutOfMemory>
         requires { IsSome (served_at shard self.old.served) }
         ensures same { self.new ≡ self.old }
@@ -156,7 +156,7 @@ impl Holdings {
     }
 
     /// The answer to a query, where the item of its key has the version or more and decides it. That
-    /// item then stands first. The one error is want of memory for the answer.
+    /// item then stands first. The one error is that there is no memory for the answer.
     pub fn look(&mut self, schema: &Schema, query: &Query, floor: u64) -> Result<Look, OutOfMemory>
         ensures look { IfOk result (λ look. look ≡ look_of (types_of schema.now) (item_at self.old.items (query_key query.now)) query.now floor) }
         ensures node { IfOk result (λ look. self.new ≡ looked_at (query_key query.now) look self.old) }
@@ -221,8 +221,8 @@ impl Holdings {
         self.asks.end(ask);
     }
 
-    /// Answers from the fill, and keeps it where its ask admits it. The ask ends. The one error is want
-    /// of memory for the answer.
+    /// Answers from the fill, and keeps it where its ask admits it. The ask ends. The one error is that
+    /// there is no memory for the answer.
     pub fn take_fill(
         &mut self,
         schema: &Schema,
@@ -245,7 +245,7 @@ impl Holdings {
     }
 
     /// Answers from the fill, and keeps it where it is as of every marked position. The one error is
-    /// want of memory for the answer.
+    /// that there is no memory for the answer.
     pub fn keep_own(
         &mut self,
         schema: &Schema,
@@ -268,7 +268,7 @@ impl Holdings {
 
     /// A fill of the item of the query's key, cut to the shortest front that decides the query, where the
     /// item has the version or more and has such a front: at the item's version, as of the low-water mark
-    /// of its shard. That item then stands first. The one error is want of memory, after which nothing
+    /// of its shard. That item then stands first. The one error is out of memory, after which nothing
     /// has changed.
     pub fn serve(
         &mut self,

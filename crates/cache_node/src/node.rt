@@ -1,4 +1,4 @@
-//! `CacheNode`.
+//! A cache node: how it looks among its items, keeps what it is given, and takes in the entries and messages of its shards.
 ghost use Rattle.std.specs.Prelude.{◌≡◌, ◌↔◌, ◌+◌, ◌-◌, ◌≤◌, ℕ, [], All, Some, if◌then◌else◌, drop, is_some, length, option_copied, take, true, IfNone, IfOk};
 ghost use Rattle.std.specs.Prelude.{IfSome, IsNone, IsSome, IsTrue, OnErr, OnOk, OnSome};
 ghost use Rattle.shard_log.specs.View.{Grows};
@@ -118,7 +118,7 @@ impl CacheNode {
     }
 
     /// The answer to a query: a hit where the key's item has the floor's version or more and decides
-    /// the query. That item then stands first; a miss leaves the order. After want of memory nothing
+    /// the query. That item then stands first; a miss leaves the order. Where there is no memory, nothing
     /// has changed.
     pub fn look(&mut self, schema: &Schema, query: &Query, floor: u64) -> Result<Look, OutOfMemory>
         ensures look { IfOk result (λ look. look ≡ look_of (types_of schema.now) (item_at self.old.items (query_key query.now)) query.now floor) }
@@ -160,7 +160,7 @@ impl CacheNode {
     /// Answers from the fill, and keeps it where its ask is open and it has the ask's mark and floor.
     /// The ask ends. A kept fill stands first, and raises the other asks on its key. The node has then seen what the fill's note has seen.
     ///
-    /// The one error is want of memory for the answer: the ask has ended, and nothing else changed.
+    /// The one error is that there is no memory for the answer: the ask has ended, and nothing else changed.
     pub fn take_fill(
         &mut self,
         schema: &Schema,
@@ -187,7 +187,7 @@ impl CacheNode {
     /// Answers from the fill, and keeps it where it is as of every position that is marked. It needs no
     /// ask, and forgets no mark.
     ///
-    /// The one error is want of memory for the answer, after which nothing has changed.
+    /// The one error is that there is no memory for the answer, after which nothing has changed.
     pub fn keep_own(
         &mut self,
         schema: &Schema,
@@ -213,7 +213,7 @@ impl CacheNode {
     /// held that has the floor's version or more and such a front within the bound. The item then stands
     /// first.
     ///
-    /// Copies what it hands on. The one error is want of memory, after which nothing has changed.
+    /// Copies what it hands on. The one error is out of memory, after which nothing has changed.
     pub fn serve(
         &mut self,
         schema: &Schema,
@@ -247,7 +247,7 @@ impl CacheNode {
     }
 
     /// Takes one touch of the log: an item of the version before it takes the change, an older one is
-    /// dropped, and so is one for which memory is wanted. Raises the asks on its key. Nothing is
+    /// dropped, and so is one for which there is no memory. Raises the asks on its key. Nothing is
     /// marked. A changeset of a shard that isn't served changes nothing.
     pub fn take_changeset(&mut self, schema: &Schema, change: Changeset)
         requires { IfSome (log_at (key_shard change.key) self.old.served) (λ log. log ≡ change.note.log) }

@@ -41,7 +41,7 @@ impl Changeset {
     /// The change that an entry of the log makes by its touch at `place`, which counts from 0. A touch
     /// of version 0, which no log that is told has, counts as one of version 1.
     ///
-    /// Copies the change. The one error is want of memory for that, which loses the note.
+    /// Copies the change. The one error is that there is no memory for that, which loses the note.
     pub fn of(entry: &Entry, place: usize, note: Note) -> Result<Changeset, OutOfMemory>
         requires place { place < length entry.now.touches }
         requires entry { WhereTold note.log.told (entry_at note.entries entry.now.position ≡ Some entry.now) }

@@ -15,7 +15,7 @@ run_shape = (with_rule (new_app (codes "run")) sql_rule).top
 abbrev pub number_rule : List ℕ → ℕ → ℕ → Rule
 number_rule name least most = record (new_rule name) { long = Some name; parser = Some (Unsigned least most); required = true }
 
--- the same with one name for its value
+-- an option that is needed, whose value is a number in a range and has one name
 abbrev pub named_number : List ℕ → ℕ → ℕ → Rule
 named_number name least most = record (number_rule name least most) { value_names = 1 }
 

@@ -37,7 +37,7 @@ unless_fault (kind ∷ kinds) words = Err Usage
 abbrev pub words_in : List Text → Result Words WordsRefusal
 words_in words = unless_fault (faults_in words) (option_and_then command_in (subcommand_in words))
 
--- want of memory aside, the refusal
+-- the refusal, unless it is out of memory
 abbrev pub usage_unless_memory : WordsRefusal → Option WordsRefusal
 usage_unless_memory Usage = Some Usage
 usage_unless_memory OutOfMemory = None

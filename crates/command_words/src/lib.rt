@@ -1,7 +1,7 @@
 //! The words of a command line: what they ask the program to do.
 //!
 //! What it promises. Words ask for a run, with a file or without, exactly where the parse of the command line has
-//! no fault; every other refusal than want of memory is a usage.
+//! no fault; every refusal but out of memory is a usage.
 //!
 //! The contracts that say so: `read_words`, `asked_text`; `words_by_example`.
 #![tactic(auto)]

@@ -1,4 +1,4 @@
-//! `Mail`.
+//! The inboxes of all leaders and followers: how the message of an entry is sent to those that are to have it, shown, taken and lost.
 ghost use Rattle.std.specs.Prelude.{◌≡◌, ◌<◌, ◌∷◌, [], IfOk, IfSome, IsTrue};
 ghost use Rattle.core_mail.specs.Inboxes.{AreEmpty, AreInboxesOf, LosesAll, Sends, ShowsInbox, TakesOut, WaitsAt, cache_names, entry_message};
 ghost use Rattle.core_model.specs.Asked.{settings};
@@ -157,7 +157,7 @@ impl Mail {
     }
 
     /// A copy of the message at a place, the oldest at 0, with a note of its own; the message stays where it is, and so do all others.
-    /// None exactly where the place isn't below the length. The one error is want of memory for the copy.
+    /// None exactly where the place isn't below the length. The one error is that there is no memory for the copy.
     pub fn copy(&mut self, node: NodeName, place: usize) -> Result<Option<Maint>, OutOfMemory>
         requires { HasNode node self.old }
         ensures copy { IfOk result (λ copy. WaitsAt node place copy self.old) }
@@ -167,7 +167,7 @@ impl Mail {
         copy_at(&mut self.inboxes, node, place)
     }
 
-    /// The shard and the position of each message that waits for a node, the oldest first. The one error is want of memory for them.
+    /// The shard and the position of each message that waits for a node, the oldest first. The one error is out of memory.
     pub fn messages(&self, alloc: Global, node: NodeName) -> Result<Messages, OutOfMemory>
         requires { HasNode node self.now }
         ensures { IfOk result (λ messages. ShowsInbox node messages self.now) }

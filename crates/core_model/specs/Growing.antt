@@ -15,7 +15,7 @@ pub record TablesGoOn (tells : Bool) (s : Settings) (old new : Tables) : Type 0 
   pub lines : WhereTold tells ((at : StoreName) → (new at).line ≡ (old at).line)
   pub others : WhereTold tells ((at : StoreName) → (IsConfiguredStore s at → ⊥) → new at ≡ old at)
 
--- so they do, and no log is cut
+-- logs only grow, and none is cut, only tables of the configuration's stores change, and no line does
 pub record StoresGrow (tells : Bool) (s : Settings) (old new : Tables) : Type 0 where
   pub on : TablesGoOn tells s old new
   pub cuts : CutsStay tells old new

@@ -103,7 +103,7 @@ abbrev pub after_carries : List Due → LinkShown → LinkShown
 after_carries [] link = link
 after_carries (due ∷ dues) link = after_carries dues (after_carry link)
 
--- it stopped at this: its carry failed, or it went over and the store then gave nothing of its log. What stopped it names the shard
+-- a settle stopped at what was due: the carry failed, or it went over and the store then gave nothing of its log. What stopped it names the shard
 abbrev pub StopsAtDue : SettleStop → Due → LinkShown → LinkShown → Type 0
 StopsAtDue (Unsettled shard LinkFault) due old new = (shard ≡ due.shard) × FailsAt (carry_of due) old new
 StopsAtDue (Unsettled shard KeeperFault) due old new = (shard ≡ due.shard) × (new ≡ after_carry old)
@@ -111,7 +111,7 @@ StopsAtDue (Unsettled shard LogFull) due old new = ⊥
 StopsAtDue (NoServer shard) due old new = ⊥
 StopsAtDue OutOfMemory due old new = new ≡ after_carry old
 
--- this was met by its carry, or it stopped here
+-- what was due was met by its carry, or the settle stopped there
 abbrev pub MeetsDue : Due → Result ⊤ SettleStop → LinkShown → LinkShown → Type 0
 MeetsDue due (Ok done) old new = new ≡ after_carry old
 MeetsDue due (Err stop) old new = StopsAtDue stop due old new
@@ -143,7 +143,7 @@ pub record KeepsBut {N : Type 0} (node : N → Node) (met : List Due) (old new :
   pub others : (shard : ℕ) → IsApart met old.name shard → served_at shard (node new.node).served ≡ served_at shard (node old.node).served
   pub none : ((shard : ℕ) → IsApart met old.name shard) → new ≡ old
 
--- so it is of each
+-- each node of a list is as it was where nothing of it was met, and has what it had of each shard of which nothing was met
 abbrev pub EachKeepsBut : {N : Type 0} → (N → Node) → List Due → List (Named N) → List (Named N) → Type 0
 EachKeepsBut {N} node met old new = (place : ℕ) (from to : Named N) → slice_get old place ≡ Some from → slice_get new place ≡ Some to
     → KeepsBut node met from to
@@ -154,7 +154,7 @@ pub record LeavesDues (tells : Bool) (due : AllCaches → List Due) (old new : A
   pub followers : EachKeepsBut follower_node met old.followers new.followers
   pub still : WhereTold tells (due new ≡ left)
 
--- so it is of a fleet
+-- of a fleet's leaders and followers nothing changed but by what was met, and where the logs are told just what is left is still due
 abbrev pub LeavesFleet : LogEnds → NodeStates → Fleet → Fleet → List Due → List Due → Type 0
 LeavesFleet ends states old new =
     LeavesDues ends.tells (dues_of_all ends states) (all_caches old.leaders old.followers) (all_caches new.leaders new.followers)

@@ -74,7 +74,7 @@ impl Fleet {
     }
 
     /// The leader or follower goes down: it loses all that it holds, and its low-water marks stay. Where it can't, nothing changes. Calls no
-    /// keeper; the one error is want of memory.
+    /// keeper; the one error is out of memory.
     pub fn go_down(
         &mut self,
         alloc: Global,

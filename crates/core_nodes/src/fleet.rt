@@ -1,4 +1,4 @@
-//! `Fleet`.
+//! All nodes of a core in one value: its leaders, its followers and its stores.
 use core_model::Named;
 use follower_cache::Follower;
 use leader_tier::Leader;

@@ -69,7 +69,7 @@ fn renew_at(config: &Config, stores: &mut [StoreNode], shard: u16, note: Note) -
 }
 
 impl Fleet {
-    /// A note of each shard's log, in order, which has seen all of it. The one error is want of memory.
+    /// A note of each shard's log, in order, which has seen all of it. The one error is out of memory.
     pub fn notes(&mut self, alloc: Global, config: &Config) -> Result<Vec<Note>, OutOfMemory>
         requires stores { AreStores config.now (store_count config.now) self.old.stores }
         ensures notes { IfOk result (λ notes. AreFirstNotes (pens_of self.old.stores) config.now.shards notes.items) }
@@ -78,7 +78,7 @@ impl Fleet {
         all_notes(alloc, config, &mut self.stores)
     }
 
-    /// A note of a shard's log, which has seen all of it. The one error is want of memory.
+    /// A note of a shard's log, which has seen all of it. The one error is out of memory.
     pub fn note(&mut self, config: &Config, shard: u16) -> Result<Note, OutOfMemory>
         requires stores { AreStores config.now (store_count config.now) self.old.stores }
         requires here { shard < config.now.shards }

@@ -132,7 +132,7 @@ impl Fleet {
     /// The stage `look`: the follower answers where it holds an item of the key at the floor or above that decides the query,
     /// which then stands first. Else it opens an ask on the key, unless 256 are open.
     ///
-    /// The one error is want of memory for the answer, which leaves all as it was. Costs a look-up, and the answer.
+    /// The one error is that there is no memory for the answer, which leaves all as it was. Costs a look-up, and the answer.
     pub fn look(
         &mut self,
         config: &Config,
@@ -216,7 +216,7 @@ impl Fleet {
     /// The stage `keep`, where a fill was given: the follower answers from it, and keeps it or not by the rule of its ask, which
     /// ends.
     ///
-    /// The one error is want of memory for the answer: the ask has ended, and nothing else changed.
+    /// The one error is that there is no memory for the answer: the ask has ended, and nothing else changed.
     pub fn keep(
         &mut self,
         config: &Config,

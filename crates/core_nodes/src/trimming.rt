@@ -131,7 +131,7 @@ impl Fleet {
     }
 
     /// The names of the leaders and followers of the store's region that serve its shard, and have not processed its log up to the position, in their
-    /// order. Calls no keeper; the one error is want of memory.
+    /// order. Calls no keeper; the one error is out of memory.
     pub fn names_behind(
         &self,
         alloc: Global,

@@ -1,4 +1,4 @@
--- A plan whose session may be about to learn ends in place of its next stage, since memory is wanting.
+-- A plan whose session may be about to learn ends in place of its next stage, since there is no memory.
 use Rattle.std.proofs.Common.{◌≡◌, refl}
 use Rattle.std.specs.Prelude.{IsSome}
 use Rattle.core_plans.specs.Held.{writer_at}

@@ -281,7 +281,7 @@ module _ (tells : Bool) (s : Settings) (p q : Reading) (around : Nodes) (keepers
       (λ least was told so. subst (HasComeTo least now) (sym masters) (subst (HasComeTo least now) (looking p.at at) (was told so)))
       (read_there Miss ask (of_plan (λ f q n. IfSome ask (λ number. HasAsk f number (query_key q) new.followers)) p follower query floor of has))
 
-  -- memory was wanting for the answer
+  -- there was no memory for the answer
   pub looks_lost : (reply : Reply) → stage_of p.at ≡ stage.Look → p.critical ≡ false → new ≡ old → reply ≡ Refused (Memory 0)
       → q ≡ taken (came.Look (Err reply)) 0 false p → DoesReadAndPasses (rules_of tells s) p from q to
   looks_lost reply at plain same said took =
@@ -332,7 +332,7 @@ module _ (tells : Bool) (s : Settings) (p q : Reading) (around : Nodes) (keepers
       (read_on tells s p from to there.read (follower_on tells s p around keepers old new link there) outcome 0 false
       (subst (λ a. StandsSo types (pens_of new.stores) (wanted_by p) (after_keep p.bound a (Some (answer, kept)))) (sym at) tt))
 
-  -- memory was wanting for the answer
+  -- there was no memory for the answer
   pub keeps_lost : (handed : Reading) (fill : SealedItem) (reply : Reply) (follower : NodeName) (ask : Option ℕ) → fill_of p.at ≡ Some fill
       → handed ≡ fill_handed p → follower ≡ handed.follower → ask ≡ handed.ask → ChangesNode follower (EndsAsk ask) old.followers new.followers
       → reply ≡ Refused (Memory 0) → q ≡ taken (came.Keep (Err reply)) 0 false handed → DoesReadAndPasses (rules_of tells s) p from q to

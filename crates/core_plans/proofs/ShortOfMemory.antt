@@ -1,4 +1,4 @@
--- A write that does all of its stages, and is refused for want of memory, has written nothing.
+-- A write that does all of its stages, and is refused as out of memory, has written nothing.
 use Rattle.std.proofs.Common.{◌≡◌, ◌∙◌, ℕ, Bool, Option, Some, None, Ok, Err, refl, sym, ap, subst, inl, inr}
 use Rattle.std.specs.Prelude.{⊤, IfSome, Result}
 use Rattle.core_model.specs.Jobs.{ShardJob}
@@ -39,7 +39,7 @@ use Rattle.core_plans.proofs.StageLemmas.{ended_down, merge_refuses_none}
 use Rattle.core_plans.proofs.StagesLeft.{IsGoing, going}
 use Rattle.core_plans.proofs.WholeRuns.{OfWrite}
 
--- where memory was wanting, nothing was written
+-- where there was no memory, nothing was written
 abbrev IsShort : Bool → KeeperState → KeeperState → Option Reply → Type 0
 IsShort tells first now refused =
     IfSome refused (λ reply. (position : ℕ) → reply ≡ replied.Refused (refusal.Memory position) → (position ≡ 0) × KeepsTables tells first now)
@@ -76,7 +76,7 @@ module _ (rules : Rules) (first : KeeperState) (p q : Writing) (old new : World)
     short = subst Now (sym is) short;
   }
 
-  -- how a reply refuses it: where memory was wanting, nothing was written
+  -- how a reply refuses it: where there was no memory, nothing was written
   abbrev Short : Refusal → Type 0
   Short why = (position : ℕ) → replied.Refused why ≡ replied.Refused (refusal.Memory position)
       → (position ≡ 0) × KeepsTables rules.tells first new.keepers

@@ -96,7 +96,7 @@ abbrev pub learner : HeldPlan → Option ℕ
 learner (Write p) = writer_at (next_of p) p.origin
 learner (Read p) = reader_at (stage_of p.at) p.reader
 
--- a plan ends in place of a stage that may be its last, since memory was wanting for what its session is to learn: a write at the position of its entry,
+-- a plan ends in place of a stage that may be its last, since there was no memory for what its session is to learn: a write at the position of its entry,
 -- which stands, with nothing changed; and a read, with its ask
 abbrev pub GivesUp : HeldPlan → World → HeldPlan → World → Type 0
 GivesUp (Write p) old (Write q) new = (q ≡ way_given_up p) × (new ≡ old)

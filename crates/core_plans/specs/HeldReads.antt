@@ -122,7 +122,7 @@ pub record LooksPast (p : Reading) (old : World) (q : Reading) (new : World) : T
   pub rest : ChangesFollowers old new
   pub then : q ≡ taken (came.Look (Ok Miss)) 0 false (record p { ask = ask })
 
--- `look` fails: memory was wanting for the follower's answer
+-- `look` fails: there was no memory for the follower's answer
 pub record LooksInVain (p : Reading) (old : World) (q : Reading) (new : World) : Type 0 where
   pub same : new ≡ old
   pub then : q ≡ taken (came.Look (Err (Refused (Memory 0)))) 0 false p
@@ -171,7 +171,7 @@ pub record AnswersFrom (s : Settings) (p : Reading) (fill : SealedItem) (old : W
   pub rest : ChangesFollowers old new
   pub then : q ≡ taken (came.Keep (Ok (Some (answer, kept)))) 0 false p
 
--- `keep` fails: memory was wanting for the follower's answer, and the read's ask ends
+-- `keep` fails: there was no memory for the follower's answer, and the read's ask ends
 pub record KeepsInVain (p : Reading) (old : World) (q : Reading) (new : World) : Type 0 where
   pub ends : EndsItsAsk p old new
   pub rest : ChangesFollowers old new

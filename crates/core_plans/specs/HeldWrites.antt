@@ -247,7 +247,7 @@ ComesOfWrite rules p old q new = DoesNextWrite rules p old q new ⊎ EndsWriteDo
 
 -- ---- without the last stage
 
--- a held write ends without its last stage, since memory was wanting for what its session is to learn: at the position of its entry, which stands
+-- a held write ends without its last stage, since there was no memory for what its session is to learn: at the position of its entry, which stands
 abbrev pub way_given_up : Writing → Writing
 way_given_up p = after_stage p (came.Apply (Err (Refused (Memory (entry_position (answered_entry p)))))) 0
 

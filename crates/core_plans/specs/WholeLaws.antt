@@ -89,7 +89,7 @@ pub record TakesItsWay (passed : Option NodeName) (job : Option Job) (old new : 
   pub carries : new.carries ≡ carries_after old.carries (way_carries passed + more)
 
 -- a write that does all of its stages: the hops of an Ok reply are the carries that they took, which are those of its way, and of the way to its other end.
--- Where it is refused for want of memory, nothing was written
+-- Where it is refused as out of memory, nothing was written
 pub record WholeWrite (rules : Rules) (p : Writing) (old : World) (q : HeldPlan) (new : World) : Type 0 where
   pub cost : IsBegunWrite p → CarriesOut rules (Write p) old q new → (reply : WriteReply) → IsOver q (Called (called.Write reply))
       → reply.hops ≡ hops_between old.link new.link

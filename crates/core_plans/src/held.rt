@@ -1,4 +1,4 @@
-//! `HeldPlan`.
+//! What a read or a write between two of its stages is, and what comes of it when it is over.
 ghost use Rattle.std.specs.Prelude.{◌≡◌, None, option_and_then};
 ghost use Rattle.core_plans.specs.Held.{IsOver, learner, next_stage, nothing_learnt, learnt_with};
 ghost use Rattle.core_steps.specs.OtherEnds.{learnt_entry_of, learnt_far};

@@ -40,8 +40,7 @@ pub fn whole_reads()
 {}
 
 /// An Ok reply of a write that does all of its stages tells exactly the carries that they took: two, or four where it passes a leader, and two more
-/// at most for its other end. Such a write that is refused for want of
-/// memory has written nothing.
+/// at most for its other end. Such a write that is refused as out of memory has written nothing.
 #[tactic(auto, using(crate::proofs::WholeWrites::whole_writes))]
 pub fn whole_writes()
     ensures { (rules : Rules) (p : Writing) (old : World) (q : AnyPlan) (new : World) → WholeWrite rules p old q new }

@@ -14,13 +14,13 @@
 //! began, and no read does in a stage, where stores and the nodes that are up have the whole logs; with the Ok reply of a write
 //! come its entry and the one that it wrote at the other end; a write of another region than the master's goes by the leader of its own that it
 //! passes, there and back; once its entry is written nothing but the link, or a node that is down, can
-//! refuse it, and it is under the write's own origin; a plan ends in place of a stage that may be its last, where memory is wanting for what its
+//! refuse it, and it is under the write's own origin; a plan ends in place of a stage that may be its last, where there is no memory for what its
 //! session is to learn: a write at the position of its entry, and a read with its ask; and no other stage answers a read.
 //!
 //! A plan that is carried out whole does all of its stages, one after another, with nothing between them. Its reply
 //! then tells exactly the carries that they took, and of a read whether a keeper was called; such a read is legal in the log as it is at their end,
 //! and changes no table and no message; where a write tells its inverse as written, the other end has it; a write that is
-//! refused for want of memory has written nothing; and where its follower is up, a plan finds each node up that it needs, and is refused
+//! refused as out of memory has written nothing; and where its follower is up, a plan finds each node up that it needs, and is refused
 //! as `no_server` only as a write for which no leader could be chosen when it began.
 //!
 //! The contracts that say so: `HeldPlans::step`, `add`, `take`, `give_up`, `read_stage`, `write_stage`,

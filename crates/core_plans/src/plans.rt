@@ -1,4 +1,4 @@
-//! `HeldPlans`.
+//! The plans that are held, each under its number: how one is added, does its next stage, is given up and is taken out.
 ghost use Rattle.std.specs.Prelude.{◌≡◌, IfSome, IsSome};
 ghost use Rattle.core_plans.specs.Held.{CanStep, GivesUp, IsThere, IsUnderWay, StepsHeld, StepsPlan, learner};
 ghost use Rattle.core_plans.specs.LedBy.{rules_of};
@@ -46,7 +46,7 @@ pub(crate) fn held_stage<K: Keeper, L: Link>(
     }
 }
 
-/// Ends a plan in place of a stage that may be its last, since memory is wanting for what its session is to learn.
+/// Ends a plan in place of a stage that may be its last, since there is no memory for what its session is to learn.
 fn give_up_stage<K: Keeper, L: Link>(
     nodes: &mut Nodes,
     config: &Config,
@@ -119,7 +119,7 @@ impl HeldPlans {
         self.plans.get(&number)
     }
 
-    /// Holds a plan under a number that is free. The one error is want of memory, and leaves all as it was.
+    /// Holds a plan under a number that is free. The one error is out of memory, and leaves all as it was.
     pub fn add(&mut self, number: u32, plan: HeldPlan) -> Result<(), OutOfMemory>
         requires { plan_at self.old number ≡ None }
         ensures ok { OnOk result (AddsPlan number plan self.old self.new) }
@@ -146,7 +146,7 @@ impl HeldPlans {
         self.plans.remove(&number)
     }
 
-    /// Ends the plan of that number in place of a stage that may be its last, since memory is wanting for what its session is to learn. A write
+    /// Ends the plan of that number in place of a stage that may be its last, since there is no memory for what its session is to learn. A write
     /// stands, at the position that its reply tells, and of a read the ask ends; nothing else changes but the plan, which stays. Takes no memory.
     pub fn give_up<K: Keeper, L: Link>(
         &mut self,

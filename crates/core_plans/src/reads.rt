@@ -290,7 +290,7 @@ fn read_is_down(node: NodeName) -> Reply
     }))
 }
 
-/// Ends a read in place of a stage that may be its last, since memory is wanting for what its session is to learn.
+/// Ends a read in place of a stage that may be its last, since there is no memory for what its session is to learn.
 pub(crate) fn give_up_read<K: Keeper, L: Link>(
     nodes: &mut Nodes,
     config: &Config,

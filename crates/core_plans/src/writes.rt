@@ -79,7 +79,7 @@ fn end_stage<K: Keeper>(nodes: &mut Nodes, config: &Config, keepers: &mut K, pla
     plan.take(WriteResult::End(result), 0);
 }
 
-/// The reply that memory is wanting for what the session of a write is to learn: the write stands, at the position that it tells.
+/// The reply that there is no memory for what the session of a write is to learn: the write stands, at the position that it tells.
 fn out_of_memory_back(plan: &WritePlan) -> Reply
     ensures { result ≡ Reply.Refused (Refusal.Memory (entry_position (answered_entry plan.now))) }
 {
@@ -90,7 +90,7 @@ fn out_of_memory_back(plan: &WritePlan) -> Reply
     Reply::Refused(Refusal::Memory { position })
 }
 
-/// Ends a write of which only the last stage is left, since memory is wanting for what its session is to learn.
+/// Ends a write of which only the last stage is left, since there is no memory for what its session is to learn.
 pub(crate) fn give_up_way(plan: &mut WritePlan)
     requires { next_of plan.old ≡ stage.Apply }
     ensures then { plan.new ≡ way_given_up plan.old }

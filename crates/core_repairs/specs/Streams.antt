@@ -83,7 +83,7 @@ StopsAsRefused shard (Store (LinkFault count when)) given = given ≡ stop.Unset
 StopsAsRefused shard (Memory position) given = given ≡ stop.OutOfMemory
 StopsAsRefused shard refusal given = ⊥
 
--- it stops at a fault only where the fault's count rose, and never for a full log, nor for a shard that isn't configured
+-- the streams of a settle stop at a fault only where the fault's count rose, and never for a full log, nor for a shard that isn't configured
 abbrev pub StreamStopHasCause : SettleStop → World → World → Type 0
 StreamStopHasCause (stop.Unsettled shard why.KeeperFault) old new = Rose old.keepers.faults new.keepers.faults
 StreamStopHasCause (stop.Unsettled shard why.LinkFault) old new = Rose old.link.faults new.link.faults
@@ -113,7 +113,7 @@ RunsStreams tells s (Err given) old new = StopsStreams tells s given old new
 
 -- ---- one step
 
--- without a position, a step of a stream is refused for a fault or for want of memory alone
+-- without a position, a step of a stream is refused for a fault or as out of memory alone
 abbrev pub IsOfNextStep : Refusal → Type 0
 IsOfNextStep (Store (KeeperFault count)) = ⊤
 IsOfNextStep (Store (LinkFault count when)) = ⊤

@@ -6,7 +6,7 @@
 //!
 //! What it promises. A shard's first open job is merged from store to store with two carries, then ended, and
 //! then those who see its records are told as after a write, or it stays open, at most merged, with its cause. The
-//! note of the log that is sent to them is taken before the merge: where memory is wanting for it nothing is done. All
+//! note of the log that is sent to them is taken before the merge: where there is no memory for it nothing is done. All
 //! open jobs are run so, shard by shard, each shard's in order, which is the plain machine's settle; one that stops at a
 //! shard has left no job open on a lower one.
 //!

@@ -40,7 +40,7 @@ pub struct Ran {
 pub enum RepairFailed {
     /// The shard on which the job's records lie isn't configured.
     NoServer,
-    /// A keeper or the link failed, the other shard's log was full, or memory was wanting.
+    /// A keeper or the link failed, the other shard's log was full, or there was no memory.
     Refused(RepairRefusal),
 }
 

@@ -1,4 +1,4 @@
-//! `Sessions`.
+//! The open sessions: where a call of one begins, which version its reads have at least, and what it learns.
 ghost use Rattle.std.specs.Prelude.{◌≡◌, ◌≤◌, OnErr, OnOk, false, length, nat_lt, true};
 ghost use Rattle.std.specs.List.{insert};
 ghost use Rattle.std.specs.List.Sorted.{IsPartitionPoint};
@@ -116,7 +116,7 @@ impl Sessions {
         }
     }
 
-    /// Opens a session, with a note of each shard's log. Moves those of greater numbers by one place. The one error is want of memory,
+    /// Opens a session, with a note of each shard's log. Moves those of greater numbers by one place. The one error is out of memory,
     /// which leaves all as they were.
     pub fn add(
         &mut self,
@@ -139,7 +139,7 @@ impl Sessions {
         Ok(())
     }
 
-    /// Makes room in the session's pass for the keys of the two entries of a write. The one error is want of memory. No floor changes.
+    /// Makes room in the session's pass for the keys of the two entries of a write. The one error is out of memory. No floor changes.
     pub fn reserve(&mut self, session: u32) -> Result<(), OutOfMemory>
         requires open { is_open (sessions_of self.old) session ≡ true }
         ensures same { sessions_of self.new ≡ sessions_of self.old }
@@ -149,7 +149,7 @@ impl Sessions {
         self.passes[place].reserve()
     }
 
-    /// A second note of what the session has seen of a shard's log. The one error is want of memory.
+    /// A second note of what the session has seen of a shard's log. The one error is out of memory.
     pub fn note(&mut self, session: u32, shard: u16) -> Result<Note, OutOfMemory>
         requires open { is_open (sessions_of self.old) session ≡ true }
         requires shard { IfSome (session_at (sessions_of self.old) session) (λ s. shard < length s.notes) }

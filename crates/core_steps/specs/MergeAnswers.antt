@@ -15,7 +15,7 @@ use Rattle.topology.specs.Config.{Settings}
 use Rattle.write_plan.specs.declared.results.LeftOpen.{LeftOpen}
 use Rattle.write_plan.specs.declared.results.LeftOpen.TheVariants.{Scheduled}
 
--- why a store refused to merge a job: a fault that came now, a log that has no room, or want of memory
+-- why a store refused to merge a job: a fault that came now, a log that has no room, or no memory
 abbrev pub RefusesMerge : Bool → Settings → ShardJob → StoreRefusal → KeeperState → KeeperState → Type 0
 RefusesMerge tells s j KeeperFault old new = Rose old.faults new.faults
 RefusesMerge tells s j (LogFull count) old new = WhereTold tells (FindsNoRoom s j count old)

@@ -129,7 +129,7 @@ StandsThere s job wrote stores =
 abbrev pub ChangesKeepers : World → World → Type 0
 ChangesKeepers old new = new ≡ record old { keepers = new.keepers }
 
--- what came of the stage `end`: a job that was merged was ended, a step of the plain machine, or the keeper failed, or memory was wanting
+-- what came of the stage `end`: a job that was merged was ended, a step of the plain machine, or the keeper failed, or there was no memory
 abbrev pub EndsOver : Bool → Settings → ShardJob → Result ⊤ LeftOpen → World → World → Type 0
 EndsOver tells s j (Ok done) old new = WhereTold tells (EndsOwed s old.keepers.told new.keepers.told j) × ChangesKeepers old new
 EndsOver tells s j (Err (Scheduled KeeperFault None)) old new = Rose old.keepers.faults new.keepers.faults

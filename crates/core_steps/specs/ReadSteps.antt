@@ -43,7 +43,7 @@ IsReached tells s read keepers = WhereTold tells (read.floor ≤ version (master
 
 -- ---- what fails over a link
 
--- why a leader, or a store, gave nothing: the store's keeper failed, or memory was wanting
+-- why a leader, or a store, gave nothing: the store's keeper failed, or there was no memory
 abbrev pub AskFails : Refusal → KeeperState → KeeperState → Type 0
 AskFails (Store (KeeperFault count)) old new = (count ≡ new.faults) × Rose old.faults new.faults
 AskFails (Memory position) old new = position ≡ 0

@@ -23,7 +23,7 @@ abbrev pub link_past : Option NodeName → LinkShown → LinkShown
 link_past None link = link
 link_past (Some leader) link = after_carry link
 
--- how a write is refused on the way to the leader that it passes, with nothing changed: memory was wanting for its way back, and nothing was carried, or
+-- how a write is refused on the way to the leader that it passes, with nothing changed: there was no memory for its way back, and nothing was carried, or
 -- the link failed
 abbrev pub RefusesPassing : Bool → Route → Refusal → World → World → Type 0
 RefusesPassing tells route (Store (LinkFault count when)) old new = (count ≡ new.link.faults) × FailsThere tells route when old new

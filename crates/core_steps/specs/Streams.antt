@@ -75,7 +75,7 @@ pub record RegionTakes (at : StoreName) (e : Entry) (old new : World) : Type 0 w
   pub note : View
   pub notified : Sends (notified_of old.states at.region at.shard) (entry_message at.shard e note) old.inboxes new.inboxes
 
--- so where the store took the entry; else no node and no inbox changed
+-- where the store took the entry, the nodes of its region take it too (`RegionTakes`); else no node and no inbox changed
 abbrev pub TakesAs : StreamVerdict → StoreName → Entry → World → World → Type 0
 TakesAs verdict.Applied at e old new = RegionTakes at e old new
 TakesAs verdict.Old at e old new = (new.fleet ≡ old.fleet) × (new.inboxes ≡ old.inboxes)
@@ -103,7 +103,7 @@ pub record TakesLoad (tells : Bool) (s : Settings) (at : StoreName) (e : Entry) 
   pub takes : TakesAs said at e old new
   pub states : new.states ≡ old.states
 
--- so where it was carried from the shard's master store
+-- the entry was carried from the shard's master store, and the store was given it and took it where it came next, and then so did the nodes of its region
 pub record TakesCarried (tells : Bool) (s : Settings) (at : StoreName) (e : Entry) (said : StreamVerdict) (old new : World) : Type 0 where
   pub streams : WhereTold tells (StreamsTo s at e (Ok said) old.keepers.told new.keepers.told)
   pub takes : TakesAs said at e old new
@@ -146,7 +146,7 @@ pub record ComesToNothing (tells : Bool) (old new : World) : Type 0 where
   pub same : ChangesNoNode tells old new
   pub link : (new.link ≡ old.link) ⊎ (new.link ≡ after_carry old.link)
 
--- why an entry was not taken, with nothing changed: a keeper or the carry failed, or memory was wanting
+-- why an entry was not taken, with nothing changed: a keeper or the carry failed, or there was no memory
 abbrev pub FailsToTake : Bool → Settings → StoreName → Refusal → World → World → Type 0
 FailsToTake tells s at (Store (KeeperFault count)) old new =
     (count ≡ new.keepers.faults) × Rose old.keepers.faults new.keepers.faults × ComesToNothing tells old new

@@ -157,7 +157,7 @@ NotCommitted tells s sent (LinkFault count when) old new = (count ≡ new.link.f
 NotCommitted tells s sent refused old new =
     StoreRefuses tells (asked_of_log s old.keepers sent.call) refused old.keepers new.keepers × RefusesThere tells old new
 
--- how a write that was not committed is refused; memory may have been wanting too, with nothing changed
+-- how a write that was not committed is refused; there may also have been no memory, with nothing changed
 abbrev pub RefusesCommit : Bool → Settings → SentWrite → Refusal → World → World → Type 0
 RefusesCommit tells s sent (Store refused) old new = NotCommitted tells s sent refused old new
 RefusesCommit tells s sent (Memory position) old new = (position ≡ 0) × RefusesThere tells old new

@@ -1,4 +1,4 @@
-//! `Nodes`.
+//! What the stages of reads and writes work on: nodes, their messages, who is up.
 use core_mail::Mail;
 use core_nodes::Fleet;
 use std::alloc::Global;

@@ -5,7 +5,7 @@ ghost use Rattle.core_steps.specs.Replies.{refilled_as, refused_as};
 use replies::{CacheReply, CallReply, NodeReply, Refilled, Refusal, Reply, StoreRefused, When};
 use shard_tables::StoreRefusal;
 
-/// Want of memory, before anything is committed.
+/// The reply that there was no memory, before anything is committed.
 pub fn out_of_memory() -> Reply
     ensures { result ≡ Reply.Refused (Refusal.Memory 0) }
 {

@@ -128,7 +128,7 @@ impl Nodes {
         Ok(Some(Maint::of(self.alloc, entry, at.shard, note)?))
     }
 
-    /// What the nodes of the store's region are to learn of an entry. The one error is want of memory.
+    /// What the nodes of the store's region are to learn of an entry. The one error is out of memory.
     fn news_of(
         &mut self,
         config: &Config,
@@ -147,7 +147,7 @@ impl Nodes {
         Ok(News { note, message })
     }
 
-    /// The entry, with all that is made of it before it is carried. The one error is want of memory.
+    /// The entry, with all that is made of it before it is carried. The one error is out of memory.
     fn load(&mut self, config: &Config, at: StoreName, entry: Entry) -> Result<Load, OutOfMemory>
         requires stores { AreStores config.now (store_count config.now) self.old.fleet.stores }
         requires here { at.shard < config.now.shards }
@@ -161,7 +161,7 @@ impl Nodes {
         Ok(Load { entry, note, news })
     }
 
-    /// The entry, loaded. Where memory is wanting, that is the refusal.
+    /// The entry, loaded. Where there is no memory, that is the refusal.
     fn loaded(&mut self, config: &Config, at: StoreName, entry: Entry) -> Result<Load, Refusal>
         requires stores { AreStores config.now (store_count config.now) self.old.fleet.stores }
         requires here { at.shard < config.now.shards }
@@ -329,7 +329,7 @@ impl Nodes {
     /// the shard processes it, where that is up, and the followers of the region that serve the shard and are up are sent a message. Where the store has
     /// all of its shard's log, or the entry at the position is an old one, nothing is carried.
     ///
-    /// Refused where the log has no entry at the position, where a keeper or the carry failed, and its count rose, or where memory was wanting: then no
+    /// Refused where the log has no entry at the position, where a keeper or the carry failed, and its count rose, or where there was no memory: then no
     /// node and no table has changed. Costs at most four calls of the keepers.
     pub fn stream_over<K: Keeper, L: Link>(
         &mut self,

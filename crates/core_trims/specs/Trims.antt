@@ -30,7 +30,7 @@ pub record ResetsNode (over : RegionTables) (name : NodeName) (old new : World) 
   pub messages : ChangesNode name LosesAll old.inboxes new.inboxes
   pub rest : new ≡ record old { fleet = new.fleet; inboxes = new.inboxes }
 
--- so does each of these, one after another, the last one first
+-- each of these leaders and followers loses all that it holds and the messages that wait for it, and begins anew, one after another, the last one first
 abbrev pub ResetEach : RegionTables → List NodeName → World → World → Type 0
 ResetEach over [] old new = new ≡ old
 ResetEach over (name ∷ names) old new = (between : World) × ResetEach over names old between × ResetsNode over name between new
@@ -45,7 +45,7 @@ pub record IsPrepared (s : Settings) (pens : Pens) (over : RegionTables) (reset 
   pub region_is : region_of reset.node ≡ over.region
   pub restart : IsRestart s pens over reset.node reset.stand
 
--- so for each of them
+-- each of these names a leader or follower of the region, and what that begins with at the region's stores
 abbrev pub ArePrepared : Settings → Pens → RegionTables → List Reset → Type 0
 ArePrepared s pens over resets = All (IsPrepared s pens over) resets
 

@@ -32,7 +32,7 @@ PassesOn (refusal.StampFull number) passed = ⊥
 PassesOn (refusal.TooOld cut position) passed = ⊥
 PassesOn (refusal.SeqReused position) passed = ⊥
 
--- the end of a job is refused for a failure of the keeper or for want of memory alone
+-- the end of a job is refused for a failure of the keeper or as out of memory alone
 abbrev pub IsOfEnds : RepairRefusal → Type 0
 IsOfEnds repair.KeeperFault = ⊤
 IsOfEnds repair.OutOfMemory = ⊤

@@ -9,6 +9,7 @@ pub enum EntryRefusal {
     /// The bytes spell no entry. The place, from 0, is that of the first byte of the first field
     /// that isn't whole or isn't allowed; where bytes follow a whole entry, of the first of them.
     BadEntry { at: u64 },
+    /// There was no memory for what the bytes spell.
     OutOfMemory,
 }
 

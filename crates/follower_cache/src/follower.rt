@@ -1,4 +1,4 @@
-//! `Follower`.
+//! A follower: a cache node that takes in what it is sent, and queues refills of the lists that messages drop.
 ghost use Rattle.std.specs.Prelude.{◌≡◌, ◌↔◌, ◌+◌, ◌-◌, ◌≤◌, ◌++◌, ℕ, [], All, Some, if◌then◌else◌, drop, is_some, length, option_copied};
 ghost use Rattle.std.specs.Prelude.{option_to_list, take, true, IfNone, IfOk, IfSome, IsNone, IsSome, IsTrue, OnErr, OnOk, OnSome};
 ghost use Rattle.shard_log.specs.View.{Grows};
@@ -116,7 +116,7 @@ impl Follower {
     }
 
     /// The answer to a query, where the key's item has the floor's version or more and decides the query.
-    /// That item then stands first; a miss leaves the order. After want of memory nothing has changed.
+    /// That item then stands first; a miss leaves the order. Where there is no memory, nothing has changed.
     pub fn look(&mut self, schema: &Schema, query: &Query, floor: u64) -> Result<Look, OutOfMemory>
         ensures look { IfOk result (λ look. look ≡ look_of (types_of schema.now) (item_at self.old.node.items (query_key query.now)) query.now floor) }
         ensures node { IfOk result (λ look. self.new ≡ record self.old { node = looked_at (query_key query.now) look self.old.node }) }
@@ -154,7 +154,8 @@ impl Follower {
     }
 
     /// Answers from the fill, and keeps it where its ask is open and it has the ask's mark and floor. The
-    /// ask ends. The one error is want of memory for the answer: the ask has ended, and nothing else changed.
+    /// ask ends. The one error is that there is no memory for the answer: the ask has ended, and
+    /// nothing else changed.
     pub fn take_fill(
         &mut self,
         schema: &Schema,
@@ -177,7 +178,7 @@ impl Follower {
     }
 
     /// Takes one touch of the log: an item of the version before it takes the change, an older one is
-    /// dropped, and so is one for which memory is wanted. Raises the asks on its key. Nothing is marked. A
+    /// dropped, and so is one for which there is no memory. Raises the asks on its key. Nothing is marked. A
     /// changeset of a shard that isn't served changes nothing.
     pub fn take_changeset(&mut self, schema: &Schema, change: Changeset)
         requires { IfSome (log_at (key_shard change.key) self.old.node.served) (λ log. log ≡ change.note.log) }

@@ -382,7 +382,7 @@ module _ (tells : Bool) (old new : Moment) where
     line_leaves (Ok (asks.Health asked)) reply answers =
         none_brought tells (asks.Health asked) old new (health_leaves old new reply tells asked answers)
 
--- where memory was wanting
+-- where there was no memory
 wants_leaves : (tells : Bool) (asked : Result Checked Refusal) (old new : Moment) → new ≡ old → KeepsAsked tells asked old new
 wants_leaves tells (Err refused) old new same = same
 wants_leaves tells (Ok asked) old new same = none_brought tells asked old new (no_change asked old new same)

@@ -81,7 +81,7 @@ module _ (tells : Bool) (old : Moment) (request : Request) (new : Moment) where
   abbrev Now : Refusal → Type 0
   Now refusal = HasCause tells old request refusal new
 
-  -- memory was wanting before anything was done
+  -- there was no memory before anything was done
   wants : (position : ℕ) → position ≡ 0 → Now (Memory position)
   wants position is = subst (λ n. Now (Memory n)) (sym is) tt
 
@@ -171,7 +171,7 @@ module _ (tells : Bool) (old : Moment) (request : Request) (new : Moment) where
 
   -- ---- health
 
-  -- a keeper failed, or memory was wanting
+  -- a keeper failed, or there was no memory
   ask_fails : (what : Checked) (refusal : Refusal) → Asks old request what → AskFails refusal old.keepers new.keepers → Now refusal
   ask_fails what (Store (KeeperFault count)) asks h = (what, asks, h)
   ask_fails what (Memory position) asks h = wants position h

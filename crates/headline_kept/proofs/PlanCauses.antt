@@ -153,7 +153,7 @@ module _ (tells : Bool) (old : Moment) (request : Request) (new : Moment) (core 
             same = λ told at. steps.tables told at ∙ ap (λ (o : Outside). o.keepers.told at) outside;
           }
 
-  -- a read that gives up is refused for want of memory
+  -- a read that gives up is refused as out of memory
   read_gives_up : (p q : Reading) (refusal : Refusal) → EndsRead read_has_no_room p (world_of old) q (world_of new) → IsOver (of.Read q) (Refused refusal)
       → RefusesHeld tells old request refusal new
   read_gives_up p q refusal gives over =
@@ -196,7 +196,7 @@ module _ (tells : Bool) (old : Moment) (request : Request) (new : Moment) (core 
     abbrev what : Checked
     what = asked.Plan (plan.Advance number)
 
-    -- at the position of its entry memory may be wanting
+    -- at the position of its entry there may be no memory
     memory_at : (n : ℕ) → StandsTold tells s new.keepers.told (write_of old.core.plans what) n → HasCause tells old request (Memory n) new
     memory_at zero stands = tt
     memory_at (suc n) stands = (what, asks, stands)

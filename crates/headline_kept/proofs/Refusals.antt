@@ -77,7 +77,7 @@ refused_line : (tells : Bool) (old new : Moment) (request : Request) (reply : Re
 refused_line tells old new request reply is refusal said =
     is_refused tells old request new is.before refusal (subst (λ r. AnswersRequest tells old request r new) said is.answers)
 
--- of what only memory can be wanting
+-- what can be served is refused as out of memory alone
 want_alone : (refusal : Refusal) (tells : Bool) (old : Moment) (request : Request) (new : Moment) → CanBeServed tells old request new
     → HasCause tells old request refusal new → (position : ℕ) × (refusal ≡ Memory position)
 want_alone (Memory position) tells old request new can cause = (position, refl)

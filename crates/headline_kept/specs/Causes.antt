@@ -169,7 +169,7 @@ NodeCause tells what old (NodeDown node when) new = DownCause what old.core node
 
 -- ---- stores
 
--- so it is of the write that a line carries out, as that is asked of the log of its shard
+-- a line carries out a write, and where the logs are told `Is` holds of it, as it is asked of the log of its shard
 abbrev pub OfWrite : Bool → Settings → KeeperState → Option AuthoredWrite → (AskedWrite → Type 0) → Type 0
 OfWrite tells s keepers None Is = ⊥
 OfWrite tells s keepers (Some write) Is = WhereTold tells (Is (asked_of_log s keepers write))
@@ -234,7 +234,7 @@ HasCause tells old request (Store refused) new = (what : Checked) × Asks old re
 HasCause tells old request (Memory zero) new = ⊤
 HasCause tells old request (Memory (suc n)) new = (what : Checked) × Asks old request what × MemoryCause tells what old (suc n) new
 
--- the request may only be refused for want of memory: no other refusal has a cause
+-- the request may only be refused as out of memory: no other refusal has a cause
 abbrev pub CanBeServed : Bool → Moment → Request → Moment → Type 0
 CanBeServed tells old request new = (refusal : Refusal) → HasCause tells old request refusal new → IsWant refusal
   where
@@ -242,7 +242,7 @@ CanBeServed tells old request new = (refusal : Refusal) → HasCause tells old r
     IsWant (Memory position) = ⊤
     IsWant refusal = ⊥
 
--- each refusal has its cause. So a request of which nothing else is amiss is served, or refused for want of memory
+-- each refusal has its cause. So a request of which nothing else is amiss is served, or refused as out of memory
 pub record RefusesWithCause (tells : Bool) (old : Moment) (request : Request) (reply : Reply) (new : Moment) : Type 0 where
   pub cause : (refusal : Refusal) → reply ≡ Refused refusal → HasCause tells old request refusal new
   pub complete : CanBeServed tells old request new → (refusal : Refusal) → reply ≡ Refused refusal → (position : ℕ) × (refusal ≡ Memory position)

@@ -47,7 +47,7 @@ pub record RepeatsAt (types : EdgeTypes) (old new : Logs) (w : ClientWrite) (pos
   pub repeats : Repeats types old new w entry other
   pub position_is : entry.position ≡ position
 
--- so between two moments, for a client's write
+-- between two moments the logs changed as `Row` says for a client's write at a position
 abbrev pub BetweenLogs : (EdgeTypes → Logs → Logs → ClientWrite → ℕ → Type 0) → Moment → CheckedWrite → ℕ → Moment → Type 0
 BetweenLogs Row old write position new =
     Row (types_of old.core.settings.schema) (stores_at old).logs (stores_at new).logs (client_write_of (stores_at old) write) position

@@ -49,7 +49,7 @@ abbrev pub owed_job : TierPlace → ℕ → Job → OwedJob
 owed_job by shard job = record { by = by; job = job_on shard job }
 
 -- why a job stays open, by what the keepers and the link showed before and after: a fault, whose count rose in between; the log at its other end, which has no
--- room for the entry that is to be written there; or that no leader of that shard can be chosen. Want of memory needs no cause
+-- room for the entry that is to be written there; or that no leader of that shard can be chosen. Out of memory needs no cause
 abbrev pub OpenCause : Bool → Settings → OwedJob → World → ScheduledWhy → World → Type 0
 OpenCause tells s owed old LinkFault new = Rose old.link.faults new.link.faults
 OpenCause tells s owed old KeeperFault new = Rose old.keepers.faults new.keepers.faults
@@ -69,7 +69,7 @@ abbrev pub why_open : OtherEnd → Option ScheduledWhy
 why_open (Open why) = Some why
 why_open other = None
 
--- so of the plan of a number, where that is a write
+-- what the job of a held plan is left open for, where that plan is a write
 abbrev pub left_open : Option HeldPlan → Option ScheduledWhy
 left_open (Some (of.Write p)) = why_open p.job
 left_open (Some (of.Read p)) = None

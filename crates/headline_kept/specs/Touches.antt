@@ -98,13 +98,13 @@ IsAtPlan states (Some (of.Read p)) name = (name ≡ p.follower) ⊎ (name ≡ as
 IsAtPlan states (Some (of.Write p)) name = (name ≡ p.follower) ⊎ IsLeader name
 IsAtPlan states None name = ⊥
 
--- so may the plan that a call begins
+-- the plan that a call begins may change items at the node of that name
 pub record IsAtCall (old : Moment) (asked : CheckedCall) (name : NodeName) : Type 0 where
   pub plan : HeldPlan
   pub begun : IsBegun old.core.settings old.core.states old.core.sessions asked plan
   pub at : IsAtPlan old.core.states (Some plan) name
 
--- and that of the oldest refill of a node
+-- the plan of the oldest refill of a node may change items at the node of that name
 pub record IsAtRefill (old : Moment) (node name : NodeName) : Type 0 where
   pub refill : Refill
   pub left : List (Named FollowerState)
@@ -153,7 +153,7 @@ abbrev pub IsApartFromCall : CheckedCall → List Entry → Key → Type 0
 IsApartFromCall (call.Read call) brought key = key ≢ query_key call.query
 IsApartFromCall (call.Write call) brought key = IsNamedByNone key brought
 
--- so for the stage of a held plan
+-- the held plan is a read that is not of the key, or a write that brings no entry that names it; or there is none
 abbrev pub IsApartFromPlan : Option HeldPlan → List Entry → Key → Type 0
 IsApartFromPlan (Some (of.Read p)) brought key = key ≢ query_key p.query
 IsApartFromPlan (Some (of.Write p)) brought key = IsNamedByNone key brought

@@ -52,12 +52,14 @@ impl FaultPlan {
         }
     }
 
+    /// How many calls were counted so far, commits among them.
     pub fn calls(&self) -> u64
         ensures { result ≡ self.now.calls.count }
     {
         self.calls.count()
     }
 
+    /// How many calls failed so far.
     pub fn faults(&self) -> u64
         ensures { result ≡ self.now.faults }
     {

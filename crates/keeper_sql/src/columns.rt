@@ -3,7 +3,7 @@ use sqlite::{Error, ErrorCode, Row};
 use tao_base::Id;
 use tao_keeper::KeepFail;
 
-/// Want of memory is told apart; whatever else a statement is refused for is a fault.
+/// Out of memory is told apart; whatever else a statement is refused for is a fault.
 pub(crate) fn fail_of(error: Error) -> KeepFail {
     match error {
         Error::SqliteFailure(ErrorCode::OutOfMemory) => KeepFail::OutOfMemory,

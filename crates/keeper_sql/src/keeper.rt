@@ -11,7 +11,7 @@ use tao_base::{AType, EdgeState, Edges, Entry, Id, Key, Object, Origin, StoreNam
 use tao_keeper::{Commit, Job, KeepFail, Keeper, Opened};
 
 /// A keeper of tables that stand in a file, or in memory, and are read and written by SQL. It tells nothing of them. Of what
-/// a statement is refused for, all but want of memory is a fault, and so is a row that no keeper may hand out.
+/// a statement is refused for, all but out of memory is a fault, and so is a row that no keeper may hand out.
 ///
 /// A commit is one transaction, and on the disk when it is answered. So is a cut, whose cost over a file is that of the entries that become old and not of
 /// the log, and so is a cut back, which costs as much as committing the entries that stay, all at once.

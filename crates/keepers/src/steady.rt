@@ -9,7 +9,7 @@ use std::alloc::Global;
 use tao_base::{AType, EdgeState, Edges, Entry, Id, Key, Object, Origin, StoreName};
 use tao_keeper::{Commit, Job, KeepFail, Keeper, Opened};
 
-/// The keeper in memory without a plan: only for want of memory does a call of it fail, and its count of faults is always 0.
+/// The keeper in memory without a plan: a call of it fails as out of memory alone, and its count of faults is always 0.
 #[derive(Drop)]
 pub struct SteadyKeeper {
     keeper: MapKeeper,

@@ -100,7 +100,7 @@ impl Leader {
     }
 
     /// Takes one touch of the log: an item of the version before it takes the change, an older one is
-    /// dropped, and so is one for which memory is wanted. Nothing is marked. A changeset of a shard that
+    /// dropped, and so is one for which there is no memory. Nothing is marked. A changeset of a shard that
     /// isn't served changes nothing.
     pub fn take_changeset(&mut self, schema: &Schema, change: Changeset)
         requires { IfSome (log_at (key_shard change.key) self.old.served) (λ log. log ≡ change.note.log) }

@@ -61,7 +61,7 @@ impl EdgesInOrder {
         self.edges.remove(&OrderKey::at(time, id2));
     }
 
-    /// Puts an edge in its place, where none goes to its id. One look-up. Want of memory changes nothing.
+    /// Puts an edge in its place, where none goes to its id. One look-up. Out of memory changes nothing.
     pub fn insert(&mut self, edge: Edge) -> Result<(), OutOfMemory>
         requires { Without edge.id2 self.old }
         ensures { self.new ≡ (if is_ok result then insert_edge edge self.old else self.old) }

@@ -48,8 +48,8 @@ impl EdgeTable {
         }
     }
 
-    /// The list after one more change. Copies the edge that is set, and looks up one place in each of its two maps. After
-    /// want of memory nothing is left.
+    /// The list after one more change. Copies the edge that is set, and looks up one place in each of its two maps. Where
+    /// there is no memory, nothing is left.
     pub fn after(self, change: &Change) -> Result<EdgeTable, OutOfMemory>
         ensures { IfOk result (λ table. ListIsAfter change.now self table) }
     {

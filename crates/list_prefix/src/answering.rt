@@ -24,7 +24,7 @@ use tao_base::{Answer, Edge, Edges, IdSet, OutOfMemory, Query, Time};
 /// list, and gives no object.
 ///
 /// Costs as many copies as edges are given, and two binary searches for a time range, or for edges to
-/// some ids a binary search among the ids for each edge. The one error is want of memory, where edges
+/// some ids a binary search among the ids for each edge. The one error is out of memory, where edges
 /// are asked for.
 pub fn answer_of<E: AsEdge>(
     alloc: Global,

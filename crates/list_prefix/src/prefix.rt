@@ -80,8 +80,8 @@ impl Prefix {
     /// `bound` is how many edges of such a list a cache holds at most: a prefix that is longer
     /// loses its last edge. A change of an object leaves the prefix as it is.
     ///
-    /// Costs a pass over the edges, and one copy of an edge that is set. The one error is want of
-    /// memory for that copy, which leaves the prefix as it was.
+    /// Costs a pass over the edges, and one copy of an edge that is set. The one error is that
+    /// there is no memory for that copy, which leaves the prefix as it was.
     pub fn apply(&mut self, change: &Change, bound: u64) -> Result<(), OutOfMemory>
         ensures after { OnOk result (self.new ≡ prefix_after change.now self.old bound) }
         ensures exact { OnOk result (StaysExact change.now self.old self.new bound) }
@@ -119,7 +119,7 @@ impl Prefix {
     ///
     /// An answer copies the edges that it gives and no others. With n edges held, a count takes
     /// constant time, a range the time of what it gives, a time range that and log n, and edges to
-    /// m ids n log m. The one error is want of memory; a query that is undecided takes none.
+    /// m ids n log m. The one error is out of memory; a query that is undecided takes none.
     pub fn read(&self, query: &Query, bound: u64) -> Result<Verdict, OutOfMemory>
         requires { IsOfList query.now }
         ensures exact { IfOk result (λ verdict. verdict ≡ verdict_of self.now query.now bound) }
@@ -144,7 +144,7 @@ impl Prefix {
         Ok(Verdict::Decided(answer))
     }
 
-    /// The same prefix once more. Copies its edges. The one error is want of memory.
+    /// The same prefix once more. Copies its edges. The one error is out of memory.
     pub fn try_clone(&self) -> Result<Prefix, OutOfMemory>
         ensures { IfOk result (λ copy. copy ≡ self.now) }
     {
@@ -160,7 +160,7 @@ impl Prefix {
     /// them, leave it undecided.
     ///
     /// Copies the edges that it gives. Costs besides as many tests as `shortest_front`. The one
-    /// error is want of memory; a query that is left undecided takes none.
+    /// error is out of memory; a query that is left undecided takes none.
     pub fn front(&self, query: &Query, bound: u64) -> Result<Option<Prefix>, OutOfMemory>
         ensures front { IfOk result (IsFrontFor self.now query.now bound) }
         ensures memory { IsLeftOpen bound self.now.edges self.now.total query.now → IsOk result }

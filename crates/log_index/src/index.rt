@@ -39,7 +39,7 @@ impl Index {
         Ok(index)
     }
 
-    /// With one more entry, which stands at that position. After want of memory nothing is left.
+    /// With one more entry, which stands at that position. Where there is no memory, nothing is left.
     pub fn with_entry(self, entry: &Entry, position: u64) -> Result<Index, OutOfMemory>
         ensures { IfOk result (λ index. (log : List EntryValue) → position ≡ length log + 1 → IsIndexOf log self → IsIndexOf (log ++ entry.now ∷ []) index) }
     {

@@ -28,7 +28,7 @@ impl KeyIndex {
         }
     }
 
-    /// Adds what an entry does. After want of memory the index says nothing.
+    /// Adds what an entry does. Once out of memory, the index says nothing.
     pub fn add(&mut self, entry: &Entry) -> Result<(), OutOfMemory>
         ensures { OnOk result ((touches : List TouchValue) → KeysTell touches self.old.keys → KeysTell (touches ++ entry.now.touches) self.new.keys) }
     {

@@ -37,7 +37,7 @@ impl KeyTable {
         }
     }
 
-    /// The table after one more change. After want of memory nothing is left.
+    /// The table after one more change. Where there is no memory, nothing is left.
     pub fn after(self, change: &Change) -> Result<KeyTable, OutOfMemory>
         ensures { IfOk result (λ table. IsAfter change.now self table) }
     {

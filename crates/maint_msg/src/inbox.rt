@@ -96,7 +96,7 @@ impl Inbox {
     }
 
     /// A copy of the message at a place, which stays where it is: the inbox is as it was, whatever is
-    /// answered. None exactly where the place isn't below the length. The one error is want of memory.
+    /// answered. None exactly where the place isn't below the length. The one error is out of memory.
     pub fn copy_at(&mut self, place: usize) -> Result<Option<Maint>, OutOfMemory>
         ensures same { self.new ≡ self.old }
         ensures copy { IfOk result (λ copy. copy ≡ slice_get self.old place) }

@@ -42,7 +42,7 @@ impl Maint {
 
     /// The message of an entry of the shard's log.
     ///
-    /// Takes the memory of its keys. The one error is want of it, which loses the note.
+    /// Takes the memory of its keys. The one error is that there is none, which loses the note.
     pub fn of(alloc: Global, entry: &Entry, shard: u16, note: Note) -> Result<Maint, OutOfMemory>
         requires entry { WhereTold note.log.told (entry_at note.entries entry.now.position ≡ Some entry.now) }
         requires here { WhereTold note.log.told (All (λ t. key_shard t.key ≡ shard) entry.now.touches) }
@@ -91,7 +91,8 @@ impl Maint {
         self.note.look()
     }
 
-    /// The same message once more, with a note of its own. The one error is want of memory for the copy.
+    /// The same message once more, with a note of its own. The one error is that there is no memory for
+    /// the copy.
     pub fn copy(&mut self) -> Result<Maint, OutOfMemory>
         ensures same { self.new ≡ self.old }
         ensures copy { IfOk result (λ copy. copy ≡ self.old) }

@@ -33,18 +33,18 @@ follower_refills follower = follower.refills
 
 -- ---- what it does
 
--- it is this node, true of what it has seen, and no refill waits
+-- a leader or follower is this node, true of what it has seen, and no refill waits
 pub record BeginsAs {N : Type 0} (node : N → Node) (refills : N → List Refill) (begun : Node) (cache : N) : Type 0 where
   pub node_is : node cache ≡ begun
   pub refills_are : refills cache ≡ []
   pub truth : IsTrueNode (node cache)
 
--- its node changes so, and its refills stay
+-- the node of a leader or follower changes so, and its refills stay
 pub record ChangesAlone {N : Type 0} (node : N → Node) (refills : N → List Refill) (By : Node → Node → Type 0) (old new : N) : Type 0 where
   pub by : By (node old) (node new)
   pub rest : refills new ≡ refills old
 
--- it processes a message, and a refill is queued for each list that it drops, or is left out
+-- a leader or follower processes a message, and a refill is queued for each list that it drops, or is left out
 pub record DeliversAs {N : Type 0} (node : N → Node) (refills : N → List Refill) (types : EdgeTypes) (m : SeenMaint) (dropped : ℕ) (old new : N) : Type 0 where
   pub by : Delivers m dropped (node old) (node new)
   pub queues : Queues types (dropped_lists (node old).items m.keys) (refills old) (refills new)
@@ -53,7 +53,7 @@ pub record DeliversAs {N : Type 0} (node : N → Node) (refills : N → List Ref
 abbrev pub EvictsAs : {N : Type 0} → (N → Node) → (N → List Refill) → Option Key → Bool → N → N → Type 0
 EvictsAs node refills key held = ChangesAlone node refills (Evicts key held)
 
--- it is emptied, and begins at these marks, with these notes; no refill waits
+-- a leader or follower is emptied, and begins at these marks, with these notes; no refill waits
 pub record IsEmptiedAs {N : Type 0} (node : N → Node) (refills : N → List Refill) (lows : List ℕ) (notes : List View) (old new : N) : Type 0 where
   pub node_is : node new ≡ emptied lows notes (node old)
   pub refills_are : refills new ≡ []

@@ -22,8 +22,8 @@ abbrev pub with_refusal : {A E F : Type 0} → (E → F) → Result A E → Resu
 with_refusal words (Ok a) = Ok a
 with_refusal words (Err refused) = Err (words refused)
 
--- the outcome is the expected one, or there was no memory, of which there may be want at any place. What of an error isn't want of
--- memory is the expected refusal
+-- the outcome is the expected one, or there was no memory, as there may be none at any place. What of an error isn't out of memory
+-- is the expected refusal
 abbrev pub Gives : {A E F : Type 0} → (E → Option F) → Result A E → Result A F → Type 0
 Gives unless_memory (Ok a) expected = expected ≡ Ok a
 Gives unless_memory (Err error) expected = IfSome (unless_memory error) (λ refused. expected ≡ Err refused)

@@ -15,7 +15,7 @@ use tao_schema::Schema;
 ///
 /// Reads all entries, and for a list keeps its edges in order through each of its changes, in time
 /// of their product. Refers to each change at the query's key, and copies the object or the edges
-/// that it gives; a count copies nothing. The one error is want of memory.
+/// that it gives; a count copies nothing. The one error is out of memory.
 pub fn answer(
     alloc: Global,
     entries: &[Entry],

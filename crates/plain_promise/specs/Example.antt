@@ -60,7 +60,7 @@ reads_list = record { session = 1; query = AssocRange 1 likes 0 10; critical = f
 abbrev pub list_from_store : ReadReply
 list_from_store = record { word = word.AssocRange; answer = EdgesAre (edge 2 5 1 ∷ []); version = 1; hops = 2; store = true; kept = Kept }
 
--- and then by its follower
+-- the list has the one edge, by the session's follower, which kept it
 abbrev pub list_kept : ReadReply
 list_kept = record list_from_store { hops = 0; store = false }
 
@@ -68,7 +68,7 @@ list_kept = record list_from_store { hops = 0; store = false }
 abbrev pub once_read : Plain
 once_read = record once_written { seen = λ session. if session == 1 then seen_version reads_list list_from_store ∷ [] else [] }
 
--- and once more
+-- once session 1 has read the list twice
 abbrev pub read_again : Plain
 read_again = record once_written {
   seen = λ session. if session == 1 then seen_version reads_list list_kept ∷ seen_version reads_list list_from_store ∷ [] else [];

@@ -383,7 +383,7 @@ pub record AnswersSameAgain (first second : Said) : Type 0 where
   pub same : (call : CheckedRead) (a b : ReadReply) → first.asked ≡ Some (asks.Call (Read call)) → second.asked ≡ first.asked → call.critical ≡ false
       → first.reply ≡ Called (called.Read a) → second.reply ≡ Called (called.Read b) → a.kept ≡ Kept → AreSameReplies a b
 
--- so is the first of the lines that follow, if there is one
+-- the first of the lines that follow, if there is one, is answered the same where it asks again a read that isn't critical and was kept
 abbrev pub AnswersNext : Said → List Said → Type 0
 AnswersNext said [] = ⊤
 AnswersNext said (next ∷ more) = AnswersSameAgain said next

@@ -126,7 +126,7 @@ module _ (s : Settings) (p q : Writing) (old new : World) (before : IsBefore p.b
 
 -- ---- a write that ends without its last stage
 
--- memory was wanting for what its session is to learn: it is gone, and nothing else changed
+-- there was no memory for what its session is to learn: it is gone, and nothing else changed
 pub record GivesUpWrite (p q : Writing) (old new : World) : Type 0 where
   pub last : IsSome (writer_at (next_of p) p.origin)
   pub gone : q ≡ way_given_up p

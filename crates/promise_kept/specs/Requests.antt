@@ -13,7 +13,7 @@ use Rattle.tao_core.specs.Asked.{asked_of}
 use Rattle.tao_core.specs.Core.{Moment}
 use Rattle.tao_core.specs.Replies.{AnswersRequest}
 
--- the request asks this at the moment, and it can be done; or it was refused before anything was done: memory was wanting, or what it asks can't be done, and
+-- the request asks this at the moment, and it can be done; or it was refused before anything was done: there was no memory, or what it asks can't be done, and
 -- the reply is that refusal
 abbrev pub IsAskedAt : Moment → Request → Option Checked → Reply → Type 0
 IsAskedAt now request None reply = (reply ≡ Refused (Memory 0))

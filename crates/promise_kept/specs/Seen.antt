@@ -106,7 +106,8 @@ pub record HasItsJob (s : Settings) (stores : Stores) (at : OtherEnd) (job : Opt
   pub position_is : IfSome job (λ j. j.position ≡ e.position)
   pub there : OwesNothing job at → AreThere (log_of stores.logs) (job_of (types_of s.schema) e)
 
--- so is that of what a commit answered; without an entry there is none
+-- the job in the answer is that of the entry that a commit answered, and once it owes nothing the other ends have what the entry wrote, or later
+-- records; without an entry there is no job
 abbrev pub HasJobOf : Settings → Stores → OtherEnd → Option Job → Option Entry → Type 0
 HasJobOf s stores at job None = job ≡ None
 HasJobOf s stores at job (Some e) = HasItsJob s stores at job e

@@ -89,6 +89,7 @@ impl ReadPlan {
         self.at.stage()
     }
 
+    /// What the read asks.
     pub fn query(&self) -> &Query
         ensures { result.now ≡ self.now.query }
     {
@@ -123,6 +124,7 @@ impl ReadPlan {
         self.critical
     }
 
+    /// The follower that the read is asked from, which looks first and keeps what is given.
     pub fn follower(&self) -> NodeName
         ensures { result ≡ self.now.follower }
     {

@@ -61,12 +61,15 @@ pub enum InverseEnd {
 /// Why an inverse is not yet written.
 #[derive(Clone, Copy, PartialEq, Eq)]
 pub enum ScheduledWhy {
+    /// A carry over a link failed.
     LinkFault,
+    /// A call of a keeper failed.
     KeeperFault,
     /// The other shard's log is full.
     LogFull,
     /// No leader could be chosen.
     NoServer,
+    /// There was no memory.
     Memory,
 }
 

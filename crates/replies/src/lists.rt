@@ -25,6 +25,7 @@ impl Lengths {
         Lengths { lengths }
     }
 
+    /// The lengths, in the order of the shards.
     pub fn as_slice(&self) -> &[u64]
         ensures { result.now ≡ self.now }
     {
@@ -64,6 +65,7 @@ impl Messages {
         Messages { messages }
     }
 
+    /// The messages, the one that was sent first in front.
     pub fn as_slice(&self) -> &[Message]
         ensures { result.now ≡ self.now }
     {

@@ -104,6 +104,7 @@ pub enum NotKeptWhy {
     Mark,
     /// The fill's version is below the ask's floor.
     Floor,
+    /// There was no memory for the item.
     Memory,
 }
 

@@ -32,6 +32,7 @@ pub enum LineRefused {
 /// Why a plan was not taken further.
 #[derive(Clone, Copy, PartialEq, Eq)]
 pub enum PlanRefused {
+    /// No plan of that number is held.
     NoPlan { plan: u32 },
     /// The plan is held already.
     PlanThere { plan: u32 },
@@ -42,6 +43,7 @@ pub enum PlanRefused {
 /// What is wrong with a session.
 #[derive(Clone, Copy, PartialEq, Eq)]
 pub enum SessionRefused {
+    /// No session of that number is open.
     NoSession { session: u32 },
     /// The session is open already.
     SessionThere { session: u32 },
@@ -54,8 +56,11 @@ pub enum SessionRefused {
 pub enum NameRefused {
     /// No such region, as `east`, or no such tier, as `east/t9`.
     NoTier { name: Text },
+    /// No node has the name.
     NoNode { name: Text },
+    /// No type has the name.
     UnknownType { name: Text },
+    /// There is no shard of that number.
     NoShard { shard: u16 },
     /// The type that an edge is to have is the one that it has.
     SameType { name: Text },
@@ -112,7 +117,10 @@ pub enum StoreRefused {
 /// Why `settle` came to no end.
 #[derive(Clone, Copy, PartialEq, Eq)]
 pub enum UnsettledWhy {
+    /// A carry over a link failed.
     LinkFault,
+    /// A call of a keeper failed.
     KeeperFault,
+    /// A log was full.
     LogFull,
 }

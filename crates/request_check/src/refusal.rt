@@ -34,7 +34,9 @@ impl Error for CheckRefusal {}
 /// Why a name has no place.
 #[derive(Drop)]
 pub enum NameError {
+    /// What was named is refused, for this cause.
     Refused(NameRefused),
+    /// There was no memory for the check.
     OutOfMemory,
 }
 

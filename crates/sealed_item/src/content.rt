@@ -16,7 +16,7 @@ pub enum Content {
 }
 
 impl Content {
-    /// The same content once more. The one error is want of memory for the copy.
+    /// The same content once more. The one error is that there is no memory for the copy.
     pub fn try_clone(&self) -> Result<Content, OutOfMemory>
         ensures { IfOk result (λ copy. copy ≡ self.now) }
     {
@@ -27,7 +27,7 @@ impl Content {
     }
 
     /// The answer, where the content decides the query. Copies what the answer gives. The one error is
-    /// want of memory for that.
+    /// that there is no memory for that.
     pub fn read(&self, schema: &Schema, query: &Query) -> Result<Option<Answer>, OutOfMemory>
         ensures { IfOk result (λ found. found ≡ content_read (types_of schema.now) self.now query.now) }
     {
@@ -57,8 +57,8 @@ impl Content {
     }
 
     /// The shortest front of the content that decides the query, no longer than the bound of its type;
-    /// of an object the object. None where there is no such front. The one error is want of memory for
-    /// the copy.
+    /// of an object the object. None where there is no such front. The one error is that there is no
+    /// memory for the copy.
     pub fn front(&self, schema: &Schema, query: &Query) -> Result<Option<Content>, OutOfMemory>
         ensures { IfOk result (IsContentFront (types_of schema.now) self.now query.now) }
     {

@@ -95,7 +95,7 @@ impl Fill {
         self.note.look()
     }
 
-    /// A second note with the view of the fill's, for another note to meet. The one error is want of
+    /// A second note with the view of the fill's, for another note to meet. The one error is out of
     /// memory.
     pub fn split_note(&mut self) -> Result<Note, OutOfMemory>
         ensures same { self.new ≡ self.old }
@@ -104,7 +104,8 @@ impl Fill {
         self.note.split()
     }
 
-    /// The same fill once more, with a note of its own. The one error is want of memory for the copy.
+    /// The same fill once more, with a note of its own. The one error is that there is no memory for
+    /// the copy.
     pub fn split(&mut self) -> Result<Fill, OutOfMemory>
         ensures same { self.new ≡ self.old }
         ensures copy { IfOk result (λ copy. copy ≡ self.old) }

@@ -1,4 +1,5 @@
-//! `ServedShards`.
+//! What a node keeps of the shards that it serves: how far it has processed the log of each, and
+//! what it has seen of it.
 use crate::shards;
 use crate::shards::Shard;
 use shard_log::Note;
@@ -42,7 +43,7 @@ impl ServedShards {
 
     /// The shards with everything up to these positions processed, and with these notes.
     ///
-    /// Takes the memory of a window of marks for each shard. The one error is want of memory.
+    /// Takes the memory of a window of marks for each shard. The one error is out of memory.
     pub fn begin(
         alloc: Global,
         served: &[u16],
@@ -113,7 +114,7 @@ impl ServedShards {
         shards::meet(self.shards.as_mut_slice(), shard, note);
     }
 
-    /// A second note of the log of a served shard. The one error is want of memory.
+    /// A second note of the log of a served shard. The one error is out of memory.
     pub fn split(&mut self, shard: u16) -> Result<Note, OutOfMemory>
         requires { IsSome (served_at shard self.old) }
         ensures same { self.new ≡ self.old }

@@ -98,7 +98,7 @@ impl Pass {
         self.floors.at(&key)
     }
 
-    /// Makes room for sixteen keys, those of the two entries of a write. The one error is want of memory, which leaves the pass as it
+    /// Makes room for sixteen keys, those of the two entries of a write. The one error is out of memory, which leaves the pass as it
     /// was.
     pub fn reserve(&mut self) -> Result<(), OutOfMemory>
         ensures same { self.new ≡ record self.old { spare = self.new.spare } }
@@ -153,7 +153,7 @@ impl Pass {
         notes::meet(&mut self.notes, shard, note);
     }
 
-    /// A second note of what the pass has seen of a shard's log. The one error is want of memory.
+    /// A second note of what the pass has seen of a shard's log. The one error is out of memory.
     pub fn note(&mut self, shard: u16) -> Result<Note, OutOfMemory>
         requires { shard < length self.old.notes }
         ensures same { self.new ≡ self.old }

@@ -176,7 +176,7 @@ has_entry (AssocAdd id1 atype id2 time payload) e = tt
 has_entry (AssocDelete id1 atype id2) e = tt
 has_entry (AssocChangeType id1 atype id2 newtype) e = tt
 
--- a refusal for the keeper or for want of memory says nothing of the log
+-- a refusal for the keeper or as out of memory says nothing of the log
 write_refusal : (asked : AskedWrite) (refusal : StoreRefusal) → IsOfReads refusal → WriteAnswers asked (Err refusal)
 write_refusal asked KeeperFault is = tt
 write_refusal asked OutOfMemory is = tt
@@ -207,7 +207,7 @@ module _ (tells : Bool) (at : StoreName) (asked : AskedWrite) (old new : KeeperS
     calls = calls;
   })
 
-  -- it is refused for the keeper, or for want of memory
+  -- it is refused for the keeper, or as out of memory
   pub write_unread : (result : Result Wrote StoreRefusal) (refusal : StoreRefusal) → result ≡ Err refusal → IsOfReads refusal
       → WhereTold tells (IsSoundOf asked.types at.shard (old.told at).log) → KeepsTables tells old new
       → CallsKeeper {T = Wrote} KeeperFault old new (Err refusal) → WriteDone tells at asked old new result
@@ -287,7 +287,7 @@ pub record IsMergeCommit (tells : Bool) (asked : AskedMerge) (store : Store) (co
   pub made : WhereTold tells (IsMade store.name.shard asked.log asked.from asked.job.position asked.job.edges commit.entry)
   pub here : WhereTold tells (All (λ t. key_shard t.key ≡ store.name.shard) commit.entry.touches)
 
--- a refusal for the keeper or for want of memory is one of merges, and says nothing of the log
+-- a refusal for the keeper or as out of memory is one of merges, and says nothing of the log
 merge_refusal : (asked : AskedMerge) (refusal : StoreRefusal) → IsOfReads refusal
     → IsOfMerges refusal × MergesAs asked.most asked.log asked.from asked.job.position asked.job.edges (Err refusal)
 merge_refusal asked KeeperFault is = (tt, tt)
@@ -318,7 +318,7 @@ module _ (tells : Bool) (at : StoreName) (asked : AskedMerge) (old new : KeeperS
     calls = calls;
   })
 
-  -- it is refused for the keeper, or for want of memory
+  -- it is refused for the keeper, or as out of memory
   pub merge_unread : (result : Result Wrote StoreRefusal) (refusal : StoreRefusal) → result ≡ Err refusal → IsOfReads refusal → KeepsTables tells old new
       → CallsKeeper {T = Wrote} KeeperFault old new (Err refusal) → MergeDone tells at asked old new result
   merge_unread result refusal is reads =

@@ -60,7 +60,7 @@ MergesAs most log from position us (Err (SeqReused at)) = ⊥
 MergesAs most log from position us (Err (ShardFull serial)) = ⊥
 MergesAs most log from position us (Err (StampFull number)) = ⊥
 
--- a merge is refused for a failure of the keeper, for want of memory or for a full log alone
+-- a merge is refused for a failure of the keeper, as out of memory or for a full log alone
 abbrev pub IsOfMerges : StoreRefusal → Type 0
 IsOfMerges KeeperFault = ⊤
 IsOfMerges OutOfMemory = ⊤

@@ -19,7 +19,7 @@ write_refused (touch.ShardFull serial) = refusal.ShardFull serial
 write_refused (touch.StampFull number) = refusal.StampFull number
 write_refused touch.OutOfMemory = refusal.OutOfMemory
 
--- a call that writes nothing is refused for a failure of the keeper or for want of memory alone
+-- a call that writes nothing is refused for a failure of the keeper or as out of memory alone
 abbrev pub IsOfReads : StoreRefusal → Type 0
 IsOfReads refusal.KeeperFault = ⊤
 IsOfReads refusal.OutOfMemory = ⊤

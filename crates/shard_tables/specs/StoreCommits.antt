@@ -33,7 +33,7 @@ pub record IsOfCommit (commit : Commit) (wrote : Wrote) : Type 0 where
   pub new : wrote.retry ≡ false
   pub job : wrote.job ≡ commit.job
 
--- nothing is committed, since the store's log is full, or for want of memory
+-- nothing is committed, since the store's log is full, or since there was no memory
 abbrev pub HasNoCommit : Store → StoreRefusal → Type 0
 HasNoCommit store (LogFull count) = IsFullFor store (LogFull count)
 HasNoCommit store OutOfMemory = ⊤

@@ -12,7 +12,7 @@
 //! the job that is still open. A merge adds exactly the records that are later than what stands there, or nothing,
 //! keeps the log sound whatever the schema, and leaves all of them there. A read hands out a fill as of the log's
 //! length, of a list the shortest front that decides the query, and the answer exactly where no front within the
-//! bound decides it; it fails for a counted fault or want of memory alone. A write that was answered is a step of
+//! bound decides it; it fails for a counted fault or out of memory alone. A write that was answered is a step of
 //! the stores of all shards.
 //!
 //! The contracts that say so: `StoreNode::open_master`, `write`, `merge`, `first_job`, `end_job`, `read`, `note`,

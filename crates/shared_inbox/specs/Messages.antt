@@ -7,7 +7,7 @@ use Rattle.maint_msg.specs.Maints.{SeenMaint}
 abbrev pub IsMaintOf : LogNames → SeenMaint → Type 0
 IsMaintOf log m = IsOfLog log m.shard m.note
 
--- so is each of the messages
+-- each of the messages is of its shard's log
 abbrev pub AreMaintsOf : LogNames → List SeenMaint → Type 0
 AreMaintsOf log [] = ⊤
 AreMaintsOf log (m ∷ ms) = IsMaintOf log m × AreMaintsOf log ms

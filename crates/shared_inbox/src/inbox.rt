@@ -61,7 +61,7 @@ impl<J: Logs> InboxPass<J> {
         self.empties.value()
     }
 
-    /// A second pass of the same inbox, with the same count. The one error is want of memory.
+    /// A second pass of the same inbox, with the same count. The one error is out of memory.
     pub fn split(&mut self) -> Result<InboxPass<J>, OutOfMemory>
         ensures same { self.new ≡ self.old }
         ensures second { IfOk result (λ other. other ≡ self.old) }
@@ -77,7 +77,7 @@ impl<J: Logs> InboxPass<J> {
 }
 
 impl<J: Logs> SharedInbox<J> {
-    /// An inbox in which no message waits, and a pass of it. The one error is want of memory.
+    /// An inbox in which no message waits, and a pass of it. The one error is out of memory.
     pub fn make(alloc: Global) -> Result<(SharedInbox<J>, InboxPass<J>), OutOfMemory>
         ensures { IfOk result (λ made. made.1 ≡ seen_inbox_pass made.0 0) }
     {
@@ -94,7 +94,7 @@ impl<J: Logs> SharedInbox<J> {
         ))
     }
 
-    /// One more pass of this inbox, which found it empty never so far. The one error is want of memory.
+    /// One more pass of this inbox, which found it empty never so far. The one error is out of memory.
     pub fn inbox_pass(&self) -> Result<InboxPass<J>, OutOfMemory>
         ensures { IfOk result (λ pass. pass ≡ seen_inbox_pass self.now 0) }
     {

@@ -22,6 +22,7 @@ pub enum DataRefusal {
     /// There are more than `Data::MOST_PAIRS`, or they are spelled in more than `Data::MOST_BYTES`:
     /// how many pairs there are with each key once, and in how many bytes these are spelled.
     TooLarge { bytes: u64, pairs: u64 },
+    /// There was no memory for the data.
     OutOfMemory,
 }
 
@@ -116,6 +117,7 @@ impl Data {
         Data { pairs }
     }
 
+    /// Whether there is no pair.
     pub fn is_empty(&self) -> bool
         ensures { result ≡ (length self.now == 0) }
     {

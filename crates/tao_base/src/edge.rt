@@ -66,6 +66,7 @@ pub enum EdgeState {
 }
 
 impl EdgeState {
+    /// The stamp of the record, whether the edge is live or cut.
     pub fn stamp(&self) -> Stamp
         ensures { result ≡ stamp_of self.now }
     {
@@ -99,6 +100,7 @@ impl Edges {
         Edges { edges }
     }
 
+    /// The edges, in the order of the vector that they were made of.
     pub fn as_slice(&self) -> &[Edge]
         ensures { result.now ≡ self.now }
     {

@@ -63,6 +63,7 @@ impl Touches {
         Touches { touches }
     }
 
+    /// The touches, in their order.
     pub fn as_slice(&self) -> &[Touch]
         ensures { result.now ≡ self.now }
     {

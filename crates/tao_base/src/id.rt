@@ -41,6 +41,7 @@ impl Id {
         }
     }
 
+    /// The whole number: the shard and the serial in one.
     pub fn number(&self) -> u64
         ensures value { result ≡ self.now }
         ensures serial { 0 < serial_of self.now }

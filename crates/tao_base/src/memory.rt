@@ -1,4 +1,4 @@
-//! Want of memory.
+//! The refusal of a call for which there was no memory.
 use std::alloc::{AllocError, AllocFailed};
 use std::error::Error;
 use std::fmt;

@@ -54,6 +54,7 @@ impl IdSet {
         self.ids.len()
     }
 
+    /// Whether the set has no id.
     pub fn is_empty(&self) -> bool
         ensures { result ≡ (length self.now == 0) }
     {

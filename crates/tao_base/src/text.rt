@@ -33,6 +33,7 @@ impl Text {
         Ok(Text::of(String::from_str(alloc, text)?))
     }
 
+    /// The text as a string, which is lent.
     pub fn as_str(&self) -> &str
         ensures { result.now ≡ self.now }
     {
@@ -69,6 +70,7 @@ impl Bytes {
         Bytes { bytes }
     }
 
+    /// The bytes, which are lent.
     pub fn as_slice(&self) -> &[u8]
         ensures { result.now ≡ self.now }
     {

@@ -136,7 +136,7 @@ moment core keepers link = record { core = core; keepers = keepers; link = link 
 abbrev pub moment_of : CoreState → Outside → Moment
 moment_of core around = moment core around.keepers around.link
 
--- memory was wanting before anything was done
+-- there was no memory before anything was done
 pub record WantsMemory (old : Moment) (reply : Reply) (new : Moment) : Type 0 where
   pub reply_is : reply ≡ Refused (Memory 0)
   pub same : new ≡ old

@@ -130,7 +130,7 @@ pub record IsShown (tells : Bool) (node : NodeName) (key : Key) (mark : ℕ) (it
   pub exact : IsExactNow tells now.core now.keepers key found
   pub mark_is : IsMarkTold now.core node (key_shard key) mark
 
--- what the reply to a show says: what the node holds at the key, unless memory was wanting
+-- what the reply to a show says: what the node holds at the key, unless there was no memory
 abbrev pub AnswersShow : Bool → NodeName → Key → Moment → Reply → Type 0
 AnswersShow tells node key now (Node (Cache (Shown mark item))) = IsShown tells node key mark item now
 AnswersShow tells node key now (Refused (Memory position)) = position ≡ 0

@@ -45,7 +45,7 @@ pub record IsDown (node : NodeName) (old : Moment) (reply : Reply) (new : Moment
   pub was_down : is_up old.core.states node ≡ false
   pub so : WasSo Down old reply new
 
--- what the reply to `down` says; or memory was wanting, and nothing changed
+-- what the reply to `down` says; or there was no memory, and nothing changed
 abbrev pub AnswersDown : NodeName → Moment → Reply → Moment → Type 0
 AnswersDown node old reply new = GoesDown node old reply new ⊎ (IsDown node old reply new ⊎ WantsMemory old reply new)
 
@@ -66,7 +66,7 @@ pub record IsUp (node : NodeName) (old : Moment) (reply : Reply) (new : Moment) 
   pub was_up : is_up old.core.states node ≡ true
   pub so : WasSo Up old reply new
 
--- the node stays down, since a keeper failed at the length of a log, or memory was wanting. Nothing changed but what the keepers show
+-- the node stays down, since a keeper failed at the length of a log, or there was no memory. Nothing changed but what the keepers show
 pub record StaysDown (tells : Bool) (node : NodeName) (old : Moment) (reply : Reply) (new : Moment) : Type 0 where
   pub was_down : is_up old.core.states node ≡ false
   pub refusal : Refusal

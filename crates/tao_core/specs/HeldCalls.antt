@@ -185,7 +185,7 @@ HeldReaches tells s (of.Read q) new = (reply : ReadReply) → EndsWith q (Called
     → KeptReaches tells s q.follower q.query (Called (called.Read reply)) new
 HeldReaches tells s (of.Write q) new = ⊤
 
--- a plan ends in place of a stage that may be its last: memory was wanting for what its session is to learn
+-- a plan ends in place of a stage that may be its last: there was no memory for what its session is to learn
 pub record EndsWithout (before : HeldPlan) (old : World) (after : HeldPlan) (new : World) : Type 0 where
   pub last : IsSome (learner before)
   pub gives : GivesUp before old after new
@@ -282,7 +282,7 @@ pub record HasNoServer (states : NodeStates) (sessions : List Session) (number s
   pub region_is : region ≡ session.region
   pub none : chosen_follower states session.region session.tier shard ≡ None
 
--- why no plan of a call was begun: no follower can be chosen for it, or memory was wanting
+-- why no plan of a call was begun: no follower can be chosen for it, or there was no memory
 abbrev pub IsNotBegun : NodeStates → List Session → CheckedCall → Reply → Type 0
 IsNotBegun states sessions asked (Refused (Node (NoServer region))) = HasNoServer states sessions (call_session asked) (call_shard asked) region
 IsNotBegun states sessions asked (Refused (Memory position)) = position ≡ 0

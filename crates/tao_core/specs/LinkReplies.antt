@@ -12,7 +12,7 @@ use Rattle.words.specs.declared.LinkWord.{LinkWord}
 use Rattle.words.specs.declared.LinkWord.TheVariants as link
 use Rattle.tao_core.specs.Core.{Moment}
 
--- one direction between two nodes was mended, where it is to be whole, or else cut, where the link tells its cuts; or memory was wanting
+-- one direction between two nodes was mended, where it is to be whole, or else cut, where the link tells its cuts; or there was no memory
 abbrev pub AnswersSwitch : LinkWord → Bool → LinkPlace → Moment → Reply → Moment → Type 0
 AnswersSwitch word whole place old (Node (Link told)) new = (told ≡ word) × SwitchesWhereTold (between place.from place.to) whole old.link.cuts new.link.cuts
     × (new ≡ record old { link = record old.link { cuts = new.link.cuts } })

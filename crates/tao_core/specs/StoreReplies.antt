@@ -36,7 +36,7 @@ pub record KeeperFails (tells : Bool) (old new : KeeperState) (count : ℕ) : Ty
   pub rose : Rose old.faults new.faults
   pub tables : KeepsTables tells old new
 
--- memory was wanting before anything was committed
+-- there was no memory before anything was committed
 pub record LacksMemory (tells : Bool) (old new : KeeperState) (position : ℕ) : Type 0 where
   pub position_is : position ≡ 0
   pub tables : KeepsTables tells old new

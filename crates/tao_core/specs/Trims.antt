@@ -19,7 +19,7 @@ pub record TrimsStore (tells : Bool) (at : StoreName) (position : ℕ) (old : Mo
   pub trims : TrimsOver tells old.core.settings at position trimmed (world_of old) (world_of new)
   pub rest : new ≡ record old { core = record old.core { fleet = new.core.fleet; mail = new.core.mail }; keepers = new.keepers }
 
--- a keeper failed, or memory was wanting, before the cut. Nothing changed but what the keepers show
+-- a keeper failed, or there was no memory, before the cut. Nothing changed but what the keepers show
 pub record FailsToTrim (tells : Bool) (old : Moment) (reply : Reply) (new : Moment) : Type 0 where
   pub refusal : Refusal
   pub reply_is : reply ≡ Refused refusal

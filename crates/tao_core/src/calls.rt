@@ -69,7 +69,7 @@ fn call_start(sessions: &Sessions, call: &CheckedCall) -> CallStart
 }
 
 /// Makes room for what the session of a write is to learn, before its first stage; that of a read gets ready before each stage that may answer
-/// it. The one error is want of memory.
+/// it. The one error is out of memory.
 pub(crate) fn make_room(sessions: &mut Sessions, call: &CheckedCall) -> Result<(), OutOfMemory>
     requires { is_open (sessions_of sessions.old) (call_session call.now) ≡ true }
     ensures { sessions_of sessions.new ≡ sessions_of sessions.old }

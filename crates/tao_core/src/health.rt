@@ -29,8 +29,8 @@ fn health_said(word: HealthWord, changed: bool) -> Reply
 }
 
 impl<'c> Core<'c> {
-    /// A leader or follower goes down: it loses its items, asks, refills and messages, and its low-water marks stay. Where it is down already, or memory is
-    /// wanting, nothing changes.
+    /// A leader or follower goes down: it loses its items, asks, refills and messages, and its low-water marks stay. Where it is down already, or there
+    /// is no memory, nothing changes.
     fn go_down(&mut self, alloc: Global, node: NodeName) -> Reply
         requires node { IsPlacedNode self.old.settings node }
         requires fleet { IsFleetOf self.old.settings self.old.fleet }
@@ -54,8 +54,8 @@ impl<'c> Core<'c> {
         }
     }
 
-    /// A leader or follower comes up: it begins empty, and has processed what its region's stores have. Where it is up already, or a keeper fails or memory
-    /// is wanting, nothing changes.
+    /// A leader or follower comes up: it begins empty, and has processed what its region's stores have. Where it is up already, or a keeper fails or there
+    /// is no memory, nothing changes.
     fn come_up<K: Keeper>(&mut self, alloc: Global, keepers: &mut K, node: NodeName) -> Reply
         requires keepers { IsCoreOf K.TELLS (K.state keepers.old).told self.old }
         requires node { IsPlacedNode self.old.settings node }

@@ -82,7 +82,7 @@ fn end_plan(
 }
 
 /// Gets the session of a plan ready to learn of it, before a stage that may be its last. None for a write, which has the notes that its session
-/// learns with, and where the stage is not the last. The one error is want of memory.
+/// learns with, and where the stage is not the last. The one error is out of memory.
 fn ready_for_last(
     sessions: &mut Sessions,
     fleet: &mut Fleet,
@@ -135,8 +135,8 @@ fn ready_at(
     }
 }
 
-/// Does the stage of a held plan that follows. Before one that may be its last the plan's session gets ready to learn of it; where memory is
-/// wanting for that, the plan ends in place of the stage.
+/// Does the stage of a held plan that follows. Before one that may be its last the plan's session gets ready to learn of it; where there is
+/// no memory for that, the plan ends in place of the stage.
 fn step_or_give_up<K: Keeper, L: Link>(
     plans: &mut HeldPlans,
     sessions: &mut Sessions,

@@ -127,7 +127,7 @@ impl<'c> Core<'c> {
     /// It carries a job there and back, each entry that a slave's store lacks once from the master's store, and then once to each node for each shard at
     /// which that lies behind its region's store, in the order of the nodes: region by region, leaders before followers.
     ///
-    /// The first fault, and the first full log, ends it as `unsettled`, and want of memory as `memory`: what was done stays, and whoever comes after is as it
+    /// The first fault, and the first full log, ends it as `unsettled`, and out of memory as `memory`: what was done stays, and whoever comes after is as it
     /// was. The shard is the job's, the stream's or the node's; where a store doesn't tell the length of its log, any. `no_server` comes where what is owed
     /// lies on a shard that isn't configured.
     ///

@@ -49,7 +49,7 @@ pub struct Reader {
 }
 
 /// Gets a session ready to learn which version of a key of the shard its read answers: makes room for that, and takes a note of the log. The one
-/// error is want of memory.
+/// error is out of memory.
 pub(crate) fn ready_reader(
     sessions: &mut Sessions,
     fleet: &mut Fleet,

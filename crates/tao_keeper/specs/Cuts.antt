@@ -6,6 +6,7 @@ use Rattle.tao_base.specs.declared.id.StoreName.{StoreName}
 use Rattle.tao_keeper.specs.Growing.{LogsGrow}
 use Rattle.tao_keeper.specs.Table.{Becomes, Table, Tables, after_cut, live_entry, old_entry}
 
+-- a table's log is its old entries and then its live ones, each position lies in one of the two parts, and no cut changes a log
 pub record CutLaws : Type 0 where
   -- the old entries followed by the live ones are the log
   pub whole : (table : Table) → take table.cut table.log ++ drop table.cut table.log ≡ table.log

@@ -21,7 +21,7 @@ pub record IsLater (old new : KeeperState) : Type 0 where
 abbrev pub KeepsTables : Bool → KeeperState → KeeperState → Type 0
 KeepsTables tells old new = WhereTold tells (Stays old.told new.told)
 
--- one call of a keeper: it was counted, the count of faults didn't fall, and a call that failed made it rise; want of memory needs no cause
+-- one call of a keeper: it was counted, the count of faults didn't fall, and a call that failed made it rise; out of memory needs no cause
 pub record IsCall {T : Type 0} (old new : KeeperState) (result : Result T KeepFail) : Type 0 where
   pub counted : Counted old.calls new.calls
   pub faults : old.faults ≤ new.faults

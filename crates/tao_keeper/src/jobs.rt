@@ -31,6 +31,7 @@ impl JobEdges {
         JobEdges { edges }
     }
 
+    /// The records, the cut before what is set.
     pub fn as_slice(&self) -> &[JobEdge]
         ensures { result.now ≡ self.now }
     {

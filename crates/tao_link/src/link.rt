@@ -53,7 +53,7 @@ pub trait Link {
     /// Asks to mend one direction, where it is to be `whole`, or else to cut it. A link that doesn't tell its
     /// cuts may leave it as it is. The counts and the last carry that failed stay.
     ///
-    /// The one error is want of memory, which leaves the cuts as they were.
+    /// The one error is out of memory, which leaves the cuts as they were.
     fn switch(&mut self, from: NodeName, to: NodeName, whole: bool) -> Result<(), OutOfMemory>
         ensures rest { shown self.new ≡ record (shown self.old) { cuts = (shown self.new).cuts } }
         ensures ok { OnOk result (SwitchesWhereTold (between from to) whole (shown self.old).cuts (shown self.new).cuts) }

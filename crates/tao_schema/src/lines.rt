@@ -62,24 +62,28 @@ impl Lines {
         })
     }
 
+    /// The lines, each at the place that is its type.
     pub fn as_slice(&self) -> &[AssocLine]
         ensures { result.now ≡ self.now }
     {
         self.lines.as_slice()
     }
 
+    /// The type of the line of that name, which is the first one; none where no line has it.
     pub fn find(&self, name: &str) -> Option<AType>
         ensures { result ≡ option_map atype_at (place_of (names_of self.now) name.now) }
     {
         self.places.get(name).map(|place| AType(*place))
     }
 
+    /// The inverse of a type; none where its line has none, or names none that is there.
     pub fn inverse(&self, atype: AType) -> Option<AType>
         ensures { result ≡ option_map atype_at (inverse_at self.now atype.0) }
     {
         self.inverses.get(usize::from(atype.0)).copied().flatten()
     }
 
+    /// How many edges of a list of the type are held at most: `MAX_BOUND` where it has no line.
     pub fn bound(&self, atype: AType) -> u64
         ensures { result ≡ bound_at self.now atype.0 }
     {

@@ -1,4 +1,4 @@
--- A good run where nothing fails ends as its stores agree, or for want of memory.
+-- A good run where nothing fails ends as its stores agree, or as there was no memory.
 use Rattle.std.proofs.Common.{◌≡◌, ◌⊎◌, ◌≤◌, ◌^◌, ℕ, Bool, true, false, List, [], ◌∷◌, ◌++◌, length, map, Option, Result, IfSome, Err, ap, inl, inr, refl, sym}
 use Rattle.std.proofs.Common.{subst, ◌∙◌, lit<, arith}
 use Rattle.std.specs.Prelude.{IsOk, Ok}

@@ -111,7 +111,7 @@ pub record IsRefusedFor (s : Settings) (used : InUse) (request : Request) (reply
   pub refused : IsAskedOf s used request (Err refusal)
   pub reply_is : reply ≡ Refused refusal
 
--- why a line is refused before anything is done: it is no request, and the reply says how; memory was wanting; or what it asks can't be done
+-- why a line is refused before anything is done: it is no request, and the reply says how; there was no memory; or what it asks can't be done
 abbrev pub IsRefusedAs : Settings → InUse → Result Request LineRefusal → Reply → Type 0
 IsRefusedAs s used (Err refused) reply = AnswersNoRequest refused reply
 IsRefusedAs s used (Ok request) reply = (reply ≡ Refused (Memory 0)) ⊎ IsRefusedFor s used request reply

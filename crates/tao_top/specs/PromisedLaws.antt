@@ -25,7 +25,7 @@ pub record CanBeDoneNow (s : Settings) (used : InUse) (given : Given) (asked : C
   pub given_is : asked_in given ≡ Ok request
   pub can : (sessions : List Session) (plans : Plans) → AreInUse used sessions plans → asked_of s sessions plans request ≡ Ok asked
 
--- before anything is done, such a given is refused for want of memory alone, and that at no position
+-- before anything is done, such a given is refused as out of memory alone, and that at no position
 pub record RefusesRightly : Type 0 where
   pub memory : (s : Settings) (used : InUse) (given : Given) (asked : Checked) (reply : Reply) → CanBeDoneNow s used given asked
       → LineAsks s used given None reply → reply ≡ Refused (Memory 0)

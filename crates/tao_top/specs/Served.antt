@@ -208,7 +208,7 @@ pub record FailsOpening (tells : Bool) (old now : Outside) (left before after : 
   pub opening : StopsOpening tells old now left before after
   pub rose : Rose old.keepers.faults now.keepers.faults
 
--- the statuses of a run that stopped at the opening of its stores: the keepers failed there, or memory was wanting
+-- the statuses of a run that stopped at the opening of its stores: the keepers failed there, or there was no memory
 abbrev pub IsOpeningStatus : ℕ → Type 0
 IsOpeningStatus code = (code ≡ 6) ⊎ (code ≡ 7)
 

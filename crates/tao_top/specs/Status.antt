@@ -41,7 +41,7 @@ pub record NoFault (old new : Faults) (keepers_before keepers_now : ℕ) : Type 
 abbrev pub StoresAgree : Settings → Tables → Type 0
 StoresAgree s tables = (at : StoreName) → IsConfiguredStore s at → Begins (tables at).log (master_log s tables at.shard)
 
--- where nothing but want of memory stops it, a run with these stores ends with 0 where they agree, and with 8 where they don't
+-- where nothing but out of memory stops it, a run with these stores ends with 0 where they agree, and with 8 where they don't
 pub record EndsByStores (s : Settings) (tables : Tables) (code : ℕ) : Type 0 where
   pub agree : StoresAgree s tables → (code ≡ 0) ⊎ (code ≡ 7)
   pub disagree : (StoresAgree s tables → ⊥) → (code ≡ 8) ⊎ (code ≡ 7)

@@ -49,7 +49,7 @@ InterruptHasCause old new interrupt.Sink = Rose old.sink new.sink
 InterruptHasCause old new interrupt.Memory = Unit {0}
 InterruptHasCause old new interrupt.InputTooLong = Unit {0}
 
--- only the sink, where its count rose, and want of memory interrupt the writing of a line
+-- the writing of a line is interrupted only by the sink, where its count rose, or as out of memory
 abbrev pub InterruptsWriting : ℕ → ℕ → Interrupt → Type 0
 InterruptsWriting before now interrupt.Sink = Rose before now
 InterruptsWriting before now interrupt.Memory = Unit {0}

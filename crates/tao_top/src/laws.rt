@@ -16,7 +16,7 @@ pub fn runs_are_promised()
     ensures { RunsArePromised }
 {}
 
-/// A line that asks what can be done is refused before anything is done for want of memory alone.
+/// A line that asks what can be done is refused before anything is done as out of memory alone.
 #[tactic(auto, using(crate::proofs::Promised::refuses_rightly))]
 pub fn refuses_rightly()
     ensures { RefusesRightly }

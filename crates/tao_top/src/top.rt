@@ -160,7 +160,7 @@ pub fn run<R: Source, S: Sink, K: Keeper, L: Link>(
     ensures at_first { result.code ≡ 3 → TakesFirst (R.left input.old) (R.left input.new) }
     ensures at_stores { result.code ≡ 8 → TakesFirst (R.left input.old) (R.left input.new) }
 
-    // Completeness: where the word and the first line are good and nothing fails, only stores that disagree and want of memory stop it.
+    // Completeness: where the word and the first line are good and nothing fails, only stores that disagree and out of memory stop it.
     ensures complete { (good : IsGood K.TELLS (map string_bytes words.now) (K.state keepers.old) (R.left input.old))
         → NoFault (faults (R.faults input.old) (S.faults output.old)) (faults (R.faults input.new) (S.faults output.new))
         (K.state keepers.old).faults (K.state keepers.new).faults

@@ -1,7 +1,11 @@
 //! The lines of the store: the configuration's, which comes first, the requests, and their replies.
 //! Each stands in a crate of its own, and its types apart from how a line spells them.
 //!
-//! What it promises. The readings and the spelling, in one place.
+//! What it promises. Nothing of its own: it names in one place what reads lines and what spells
+//! replies, and the types of what they say.
+//!
+//! The contracts that say so: none here. They are those of `read_config`, `read_request` and
+//! `reply_text`, in their crates.
 #![tactic(auto)]
 
 pub use config_json::{ConfigRefusal, read_config};

@@ -40,6 +40,7 @@ impl MasterRegions {
         }
     }
 
+    /// The places, in order: that of a shard is at the shard modulo their number.
     pub fn as_slice(&self) -> &[u16]
         ensures value { result.now ≡ self.now }
         ensures rules { IsTrue (in_range 1 64 (length self.now)) }

@@ -37,6 +37,7 @@ impl Name {
         }
     }
 
+    /// The name as a string, which is lent.
     pub fn as_str(&self) -> &str
         ensures value { result.now ≡ self.now }
         ensures form { IsTrue (is_name self.now) }

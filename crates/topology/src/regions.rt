@@ -65,6 +65,7 @@ impl Regions {
         }
     }
 
+    /// The regions, each at its place.
     pub fn as_slice(&self) -> &[Region]
         ensures value { result.now ≡ self.now }
         ensures rules { IsTrue (are_regions self.now) }

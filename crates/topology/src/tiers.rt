@@ -63,6 +63,7 @@ impl Tiers {
         }
     }
 
+    /// The tiers, each at its place.
     pub fn as_slice(&self) -> &[Tier]
         ensures value { result.now ≡ self.now }
         ensures rules { IsTrue (are_tiers self.now) }

@@ -18,7 +18,7 @@ use tao_schema::Schema;
 /// The touches of a write, in the epoch of its shard; none where nothing is there to change. No table changes.
 ///
 /// Refused where the object that would be added has no serial (`ShardFull`), where a record at id1 has no next stamp
-/// (`StampFull`), where a call of the keeper failed (`KeeperFault`), and for want of memory. Costs one call of the keeper
+/// (`StampFull`), where a call of the keeper failed (`KeeperFault`), and as out of memory. Costs one call of the keeper
 /// for the object, the last serial or the record at id1, or two for the records at id1 of both types; and one for an
 /// object's touch, and two for each touch of an edge, of which there are four at most.
 pub fn touches_of<M: Keeper>(

@@ -82,7 +82,7 @@ returns-in-Ok g c =
     (sessions_of finished.new.sessions) finished.result finished.ensures.over finished.ensures.learns went.new.nodes.fleet refl in
     record { does = done.does; usable = done.usable }
 
--- ---- memory is wanting
+-- ---- there is no memory
 
 pub returns-in-Err : goal.returns-in-Err
 returns-in-Err g c =

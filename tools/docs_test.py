@@ -29,9 +29,18 @@ def lines_in(document: Path) -> Iterator[tuple[int, str]]:
     return enumerate(document.read_text(encoding="utf-8").splitlines(), 1)
 
 
-def shown_json(document: Path) -> list[tuple[bool, Line]]:
-    """The lines of JSON that a document shows, also those that it breaks, and whether each is a reply."""
-    shown = "\n".join(line[4:] for _, line in lines_in(document) if line.startswith("    "))
+def sections_of(document: Path) -> list[str]:
+    """The parts of a document: what stands before its first heading of the second level, and what begins with each of these."""
+    return re.split(r"^(?=## )", document.read_text(encoding="utf-8"), flags=re.MULTILINE)
+
+
+def shown_lines(text: str) -> list[str]:
+    return [line[4:] for line in text.splitlines() if line.startswith("    ")]
+
+
+def shown_json(text: str) -> list[tuple[bool, Line]]:
+    """The lines of JSON that a text shows, also those that it breaks, and whether each is a reply."""
+    shown = "\n".join(shown_lines(text))
     decoder, place = json.JSONDecoder(), 0
     found: list[tuple[bool, Line]] = []
     while (start := shown.find("{", place)) >= 0:
@@ -49,9 +58,17 @@ def names_in_sources() -> set[str]:
 class Documents(unittest.TestCase):
     def test_the_tour_is_its_script(self) -> None:
         script = lines_of(TOP / "crates/scripts/data/tour.script")
-        shown = shown_json(TOP / "docs/TOUR.md")
+        shown = shown_json(sections_of(TOP / "docs/TOUR.md")[0])
         self.assertEqual([line for is_reply, line in shown if not is_reply], script.asked)
         self.assertEqual([line for is_reply, line in shown if is_reply], script.answered)
+
+    def test_what_the_tour_shows_later_begins_the_script_that_it_names(self) -> None:
+        for section in sections_of(TOP / "docs/TOUR.md")[1:]:
+            if shown := shown_lines(section):
+                script = re.findall(r"`(crates/scripts/data/\w+\.script)`", section)[0]
+                stored = (TOP / script).read_text(encoding="utf-8").splitlines()
+                first = stored.index("$ tao run") + 1
+                self.assertEqual(shown, stored[first : first + len(shown)], script)
 
     def test_each_example_is_a_script(self) -> None:
         for example in (TOP / "examples").glob("*.jsonl"):

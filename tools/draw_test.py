@@ -18,6 +18,7 @@ sys.path.insert(0, str(TOOLS))
 
 from drawing import run as runs
 from drawing.lines import Lines, runs_of
+from drawing.logs import shard_of_call
 from drawing.picture import draw
 from drawing.run import Run
 from drawing.steps import Mark
@@ -80,6 +81,29 @@ class Scripts(unittest.TestCase):
                     known = Run(lines.asked[: place + 1], lines.answered).inboxes[request["node"]]
                     shown = [(message["shard"], message["position"]) for message in reply["messages"]]
                     self.assertEqual(known, shown, f"{name}, line {place + 1}")
+
+    def test_marks_are_those_that_are_told(self) -> None:
+        for name, lines in whole_runs():
+            for place, (request, reply) in enumerate(zip(lines.asked, lines.answered)):
+                if "mark" in reply:
+                    run = Run(lines.asked[: place + 1], lines.answered)
+                    shard = reply["shard"] if "shard" in reply else shard_of_call(request)
+                    known = 0 if request["node"] in run.topology.down else run.marks.low[request["node"], shard]
+                    self.assertEqual(known, reply["mark"], f"{name}, line {place + 1}")
+
+    def test_as_many_nodes_are_reset_as_a_trim_says(self) -> None:
+        for name, lines in whole_runs():
+            for row, reply in zip(Run(lines.asked, lines.answered).rows, lines.answered):
+                if reply.get("ok") == "trim":
+                    reset = [step for step in row.steps if isinstance(step, Mark) and step.kind == "reset"]
+                    self.assertEqual(len(reset), reply["reset"], f"{name}, line {row.number}")
+
+    def test_a_trim_cuts_a_log_and_resets_who_lies_behind(self) -> None:
+        lines = dict(whole_runs())["trims_of_regions"]
+        trims = [row.steps for row in Run(lines.asked, lines.answered).rows if row.request.startswith("trim")]
+        self.assertEqual(trims[0], [Mark("east/store/0", "seen")])
+        self.assertEqual(trims[1], [Mark("east/store/0", "trimmed", "1"), Mark("east/t1/0", "reset")])
+        self.assertEqual(trims[2], [Mark("west/store/0", "trimmed", "2"), Mark("west/t1/0", "reset")])
 
     def test_a_message_for_which_there_is_no_room_is_lost(self) -> None:
         with unittest.mock.patch.object(runs, "INBOX", 1):

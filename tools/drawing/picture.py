@@ -12,7 +12,7 @@ REQUEST, REPLY = 33, 27  # characters in a line of text
 STEP, LINE, PAD = 15, 16, 12
 REQUEST_AT, LANES_AT = 34, 34 + width_of("x" * REQUEST) + 14
 VERSIONS, HEAD = 78, 46
-MARKED = ("sent", "lost", "delivered", "dropped", "settled")
+MARKED = ("sent", "lost", "delivered", "dropped", "settled", "reset")
 WAYS = {
     "client": ("a client's call", "#93a1b0"),
     "hop": ("a hop", INK),
@@ -30,6 +30,8 @@ MARKS = {
     "settled": "has all of its logs, no message",
     "down": "goes down, and loses what it held",
     "up": "comes up, empty",
+    "trimmed": "log is cut here, old up to this position",
+    "reset": "lies behind the cut, and begins anew",
     "seen": "takes place here",
 }
 
@@ -120,8 +122,10 @@ def draw_mark(sheet: Sheet, mark: Mark, x: float, y: float) -> None:
     elif mark.kind == "held":
         corners = f"{x - 5:.1f},{y:.1f} {x:.1f},{y - 5:.1f} {x + 5:.1f},{y:.1f} {x:.1f},{y + 5:.1f}"
         sheet.element("polygon", points=corners, fill="#ffffff", stroke=HELD, stroke_width=1.6)
-    elif mark.kind in ("down", "up"):
-        sheet.box(x - 5, y - 5, 10, 10, "#ffffff" if mark.kind == "up" else BAD, stroke=INK)
+    elif mark.kind in ("down", "up", "reset"):
+        sheet.box(x - 5, y - 5, 10, 10, BAD if mark.kind == "down" else "#ffffff", stroke=HELD if mark.kind == "reset" else INK)
+    elif mark.kind == "trimmed":
+        sheet.line(x, y - 7, x, y + 7, HELD, stroke_width=3)
     elif mark.kind in ("settled", "seen"):
         sheet.element("circle", cx=x, cy=y, r=3.5, fill=GOOD if mark.kind == "settled" else "#ffffff", stroke=INK)
     else:

@@ -9,12 +9,14 @@ from collections.abc import Callable
 from dataclasses import dataclass
 
 from .logs import Committed, Job, Logs, key_of, shard_of_call
+from .marks import Marks
 from .steps import Row, Walk
 from .topology import Topology
 from .words import READS, WRITES, Line, words_of_reply, words_of_request
 
 INBOX = 4096
-REFUSED_AT_STORE = ("seq_reused", "shard_full", "stamp_full", "log_full", "keeper_fault", "link_fault", "memory", "node_down")
+REFUSED_BY_ENTRY = ("seq_reused", "too_old")  # a refusal that tells the position of an entry that stands
+REFUSED_AT_STORE = REFUSED_BY_ENTRY + ("shard_full", "stamp_full", "log_full", "keeper_fault", "link_fault", "memory", "node_down")
 
 
 @dataclass
@@ -55,7 +57,9 @@ class Run:
         self._cuts: set[tuple[str, str]] = set()
         self._plans: dict[int, Plan] = {}
         self.inboxes: dict[str, list[tuple[int, int]]] = {node: [] for node in self.topology.caches()}
+        self.marks = Marks()
         self._taken: Counter[tuple[str, int]] = Counter()  # how many entries the store of a slave region has
+        self._old: Counter[tuple[str, int]] = Counter()  # up to where a store's log is cut
         self._replies = replies
         self.rows = [self._row(number, *lines) for number, lines in enumerate(zip(requests, replies))]
 
@@ -119,9 +123,14 @@ class Run:
         if reply.get("hops") == 0:
             walk.mark(course.follower, "answer")
             return
+        self._open_ask(course, reply)
         asked = not call.get("critical") and self._ask(course, reply, walk)
         if call.get("critical") or (asked and reply.get("hops", 2) > 2):
             self._ask_master(course, reply, walk)
+
+    def _open_ask(self, course: Course, reply: Line) -> None:
+        if reply.get("why") != "asks":
+            self.marks.forget(course.follower, course.shard)
 
     def _ask(self, course: Course, reply: Line, walk: Walk) -> bool:
         return self._ask_region(course.follower, self._tier(course.call), course.shard, reply, walk)
@@ -170,9 +179,11 @@ class Run:
         if not walk.along(course.route()):
             return None
         walk.way(course.leader, self._master_store(course.shard), "call")
-        if "no" in reply and not reply.get("position"):
+        if "no" in reply and (reply["no"] in REFUSED_BY_ENTRY or not reply.get("position")):
             return None
         done = self.logs.commit(course.call)
+        if done:
+            self._take_written(course.leader, course.shard, done.position)
         if done and done.is_new:
             self._tell(self._told(course.shard, course.leader), course.shard, done.position, walk)
         return done
@@ -187,13 +198,21 @@ class Run:
         walk.way(other, self._master_store(job.far), "call")
         is_merged = reply.get("why") in (None, "link_fault")
         if is_merged:
-            self._merge_at(job, walk, self._told(job.far, other))
+            position = self._merge_at(job, walk, self._told(job.far, other))
+            if position:
+                self._take_written(other, job.far, position)
         return walk.hop(other, course.leader) and is_merged
 
-    def _merge_at(self, job: Job, walk: Walk, told: list[str]) -> None:
+    def _merge_at(self, job: Job, walk: Walk, told: list[str]) -> int | None:
         position = self.logs.merge(job)
         if position:
             self._tell(told, job.far, position, walk)
+        return position
+
+    def _take_written(self, leader: str, shard: int, position: int) -> None:
+        """The preferred leader marks what it wrote; one that stands in doesn't."""
+        if leader == self.topology.preferred(self.topology.master(shard), shard):
+            self.marks.mark(leader, shard, position)
 
     def _end(self, course: Course, job: Job, reply: Line, walk: Walk) -> None:
         """The stage `end`, at the job's own shard."""
@@ -227,18 +246,28 @@ class Run:
             for job in list(self.logs.jobs[shard]):
                 if not self._run_job(job, reply, walk):
                     return
-        if not self._run_streams(walk) or "no" in reply:
+        if not self._run_streams(walk) or not self._catch_up() or "no" in reply:
             return
         self.inboxes = {node: [] for node in self.inboxes}
         for node in self.topology.caches():
             if node not in self.topology.down:
                 walk.mark(node, "settled")
 
+    def _catch_up(self) -> bool:
+        """Each node that is up processes what its region's stores have, the leaders first: whether all do. Each log that it lacks a part of is a carry."""
+        for region in self.topology.regions:
+            for node in self.topology.leaders(region) + self.topology.followers(region):
+                for shard in self._served(node) if node not in self.topology.down else []:
+                    if self.marks.low[node, shard] < self._length(region, shard) and (self.topology.store(region, shard), node) in self._cuts:
+                        return False
+                    self.marks.begin(node, shard, self._length(region, shard))
+        return True
+
     # streams
 
     def _stream(self, request: Line, reply: Line, walk: Walk) -> None:
         region, shard = request["region"], request["shard"]
-        if reply.get("verdict") == "none":
+        if reply.get("hops") == 0:
             walk.mark(self.topology.store(region, shard), "seen")
         elif reply.get("no", "link_fault") == "link_fault":
             self._step_of_stream(region, shard, walk, reply.get("verdict") == "applied")
@@ -252,6 +281,7 @@ class Run:
             position = self._taken[region, shard]
             leader = self.topology.preferred(region, shard)
             if leader not in self.topology.down:
+                self.marks.mark(leader, shard, position)
                 walk.mark(leader, "delivered", str(position))
             self._tell(self.topology.told(region, shard), shard, position, walk)
         return True
@@ -264,6 +294,36 @@ class Run:
             for region, shard in slaves
             for _ in range(self._taken[region, shard], self.logs.lengths[shard])
         )
+
+    # trims
+
+    def _trim(self, request: Line, reply: Line, walk: Walk) -> None:
+        """A log is cut, and who lies behind begins anew. One that is down does so too, which nobody sees."""
+        if "no" in reply:
+            return
+        region, shard, cut = request["region"], request["shard"], reply["cut"]
+        if cut == self._old[region, shard]:
+            walk.mark(self.topology.store(region, shard), "seen")
+            return
+        self._old[region, shard] = cut
+        walk.mark(self.topology.store(region, shard), "trimmed", str(cut))
+        for node in self.topology.serving(region, shard):
+            if node not in self.topology.down and self.marks.low[node, shard] < cut:
+                self._begin_at_stores(node)
+                self.inboxes[node] = []
+                walk.mark(node, "reset")
+
+    def _begin_at_stores(self, node: str) -> None:
+        """The node has processed what its region's stores have of the shards that it serves."""
+        for shard in self._served(node):
+            self.marks.begin(node, shard, self._length(node.split("/")[0], shard))
+
+    def _served(self, node: str) -> list[int]:
+        return [shard for shard in range(self.topology.shards) if node in self.topology.serving(node.split("/")[0], shard)]
+
+    def _length(self, region: str, shard: int) -> int:
+        """How many entries the region's store has."""
+        return self.logs.lengths[shard] if region == self.topology.master(shard) else self._taken[region, shard]
 
     # messages
 
@@ -283,6 +343,8 @@ class Run:
         inbox = self.inboxes[request["node"]]
         if request["do"] != "again" and request["message"] < len(inbox):
             del inbox[request["message"]]
+        if request["do"] != "drop":
+            self.marks.mark(request["node"], reply["shard"], reply["position"])
         walk.mark(request["node"], "dropped" if request["do"] == "drop" else "delivered", str(reply["position"]))
 
     # held calls
@@ -290,6 +352,8 @@ class Run:
     def _hold(self, number: int, request: Line, reply: Line, walk: Walk) -> None:
         call = request["request"]
         plan = Plan(self._begin(call, walk), reply.get("next", ""), self._ending(number, request["plan"]))
+        if plan.stage in ("ask", "master"):
+            self._open_ask(plan.course, plan.ending)
         if call["do"] in WRITES:
             done = self._commit(plan.course, reply, walk)
             plan.job = done.job if done else None
@@ -347,6 +411,7 @@ class Run:
     def _come_up(self, request: Line, reply: Line, walk: Walk) -> None:
         if reply.get("changed"):
             self.topology.down.discard(request["node"])
+            self._begin_at_stores(request["node"])
             walk.mark(request["node"], "up")
 
     def _suspect(self, request: Line, reply: Line, walk: Walk) -> None:
@@ -395,6 +460,7 @@ class Run:
         "show": _see,
         "stream": _stream,
         "suspect": _suspect,
+        "trim": _trim,
         "trust": _suspect,
         "up": _come_up,
     }

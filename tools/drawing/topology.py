@@ -42,8 +42,14 @@ class Topology:
 
     def told(self, region: str, shard: int) -> list[str]:
         """The followers that get a message of an entry of the shard in the region."""
-        nodes = [self._serving(region, tier, shard) for tier in self._tiers(region)]
-        return [node for node in nodes if node not in self.down]
+        return [node for node in self._in_tiers(region, shard) if node not in self.down]
+
+    def serving(self, region: str, shard: int) -> list[str]:
+        """The followers and the leader of the region whose turn the shard is, up or not."""
+        return [*self._in_tiers(region, shard), self.preferred(region, shard)]
+
+    def _in_tiers(self, region: str, shard: int) -> list[str]:
+        return [self._serving(region, tier, shard) for tier in self._tiers(region)]
 
     def followers(self, region: str) -> list[str]:
         return [f"{region}/{tier}/{index}" for tier, count in self._tiers(region).items() for index in range(count)]

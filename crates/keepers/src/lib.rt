@@ -8,8 +8,6 @@
 
 mod keepers;
 mod steady;
-#[cfg(test)]
-mod tests;
 
 pub use keepers::Keepers;
 pub use steady::SteadyKeeper;

@@ -1,6 +1,6 @@
 //! Tests of the stores, of what stands between them and of what they are made of, by public calls alone, of what no line can ask for:
-//! bytes and streams from outside, a log under two threads, a stand-in for a leader, repairs between two stores, stores of one log, and a
-//! log that is trimmed.
+//! bytes and streams from outside, a log under two threads, a stand-in for a leader, repairs between two stores, stores of one log, a log
+//! that is trimmed, and keepers that are called as one.
 //! They stand above the crates that they test, so that none of these is proved twice.
 #![tactic(auto)]
 
@@ -12,6 +12,8 @@ mod fills;
 mod following;
 #[cfg(test)]
 mod jobs;
+#[cfg(test)]
+mod keepers_as_one;
 #[cfg(test)]
 mod leaders;
 #[cfg(test)]

@@ -1,6 +1,6 @@
 //! A keeper for each of two stores, which are called as one.
-use crate::Keepers;
 use keeper_map::{Fails, MapKeeper};
+use keepers::Keepers;
 use std::alloc::Global;
 use std::test::Fail;
 use tao_base::StoreName;

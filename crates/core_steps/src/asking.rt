@@ -11,7 +11,6 @@ ghost use Rattle.core_steps.specs.ReadSteps.{AskFails, IsGivenOver, IsNotGiven, 
 ghost use Rattle.core_steps.specs.Reads.{AnswersThere, MayBeAsked, leader_calls, master_calls};
 ghost use Rattle.core_steps.specs.Routes.{FailsCarry};
 ghost use Rattle.core_steps.specs.World.{world};
-ghost use Rattle.leader_tier.specs.LeaderReads.{at_floor};
 ghost use Rattle.tao_base.specs.Queries.{query_shard};
 ghost use Rattle.tao_keeper.specs.KeeperState.{IsLater, KeepsTables};
 ghost use Rattle.tao_link.specs.Shown.{after_carry};
@@ -22,6 +21,7 @@ use crate::refusals::{link_fault, refused_as};
 use crate::routes::{Route, carry};
 use core_model::{Wanted, master_of, masters_are_regions};
 use core_nodes::master_store;
+use leader_tier::at_floor;
 use node_name::NodeName;
 use replies::{Refusal, StoreRefused, When};
 use shard_tables::{LeaderAnswer, ReadOut};
@@ -39,40 +39,6 @@ pub(crate) fn carried<L: Link>(link: &mut L, from: NodeName, to: NodeName) -> Re
     match carry(link, from, to) {
         Ok(()) => Ok(()),
         Err(LinkFailed) => Err(link_fault(link.faults(), When::Before)),
-    }
-}
-
-/// What a store read, where it has come to the floor, and else the version that it has.
-fn at_floor(floor: u64, out: ReadOut) -> LeaderAnswer
-    ensures { result ≡ at_floor floor out }
-{
-    match out {
-        ReadOut::Filled(fill) => {
-            let version = fill.version();
-            if version < floor {
-                drop(fill);
-                return LeaderAnswer::Behind { version };
-            }
-            LeaderAnswer::Filled(fill)
-        }
-        ReadOut::Past {
-            answer,
-            version,
-            total,
-            note,
-        } => {
-            if version < floor {
-                drop(answer);
-                drop(note);
-                return LeaderAnswer::Behind { version };
-            }
-            LeaderAnswer::Past {
-                answer,
-                version,
-                total,
-                note,
-            }
-        }
     }
 }
 

@@ -1,5 +1,7 @@
 -- What a leader hands out is legal at the floor.
-use Rattle.std.proofs.Common.{◌≡◌, ℕ, ◌≤◌, Bool, true, List, Option, Some, None, length, take, refl, sym, ◌∙◌, ap, subst, arith}
+use Rattle.std.proofs.Common.{◌≡◌, ℕ, ◌≤◌, ◌<◌, Bool, true, List, Option, Some, None, length, take, refl, sym, ◌∙◌, ap, subst, inl, inr, arith}
+use Rattle.std.proofs.lemmas.Bool.{cases_Bool, ltb-false, ltb-true}
+use Rattle.std.specs.Prelude.{nat_lt}
 use Rattle.tao_base.specs.EdgeTypes.{EdgeTypes}
 use Rattle.tao_base.specs.Queries.{query_key}
 use Rattle.tao_base.specs.declared.entry.Entry.{Entry}
@@ -25,11 +27,33 @@ use Rattle.shard_tables.specs.ReadOuts.{IsFillFor, IsReadOutOf, read_note}
 use Rattle.shard_tables.specs.Reads.{AnswersAtVersion}
 use Rattle.shard_tables.specs.StoreView.{Store}
 use Rattle.shard_tables.specs.Stores.{HasSeen, IsStoreOf, note_of, seen_by}
+use Rattle.shard_tables.specs.declared.leader_answer.LeaderAnswer.{LeaderAnswer}
+use Rattle.shard_tables.specs.declared.leader_answer.LeaderAnswer.TheVariants.{Filled, Past, Behind}
 use Rattle.shard_tables.specs.declared.read_out.ReadOut.{ReadOut}
 use Rattle.shard_tables.specs.declared.read_out.ReadOut.TheVariants as out
 use Rattle.shard_tables.specs.declared.store.StoreRole.{StoreRole}
 use Rattle.shard_tables.specs.declared.store.StoreRole.TheVariants.{Master, Slave}
-use Rattle.leader_tier.specs.LeaderReads.{AreAnswersSeen, IsFillAt}
+use Rattle.leader_tier.specs.LeaderReads.{AreAnswersSeen, IsFillAt, at_floor}
+
+-- what a store read, as it is handed out where it has come to the floor; else its version is below
+abbrev pub IsHandedOut : ℕ → ReadOut → LeaderAnswer → Type 0
+IsHandedOut floor read (Filled fill) = (read ≡ out.Filled fill) × (floor ≤ fill.version)
+IsHandedOut floor read (Past answer version total note) = (read ≡ out.Past answer version total note) × (floor ≤ version)
+IsHandedOut floor read (Behind version) = version < floor
+
+-- nothing else is handed out at the floor
+pub handed_out : (floor : ℕ) (read : ReadOut) (given : LeaderAnswer) → given ≡ at_floor floor read → IsHandedOut floor read given
+handed_out floor read given is = subst (IsHandedOut floor read) (sym is) (by_read read)
+  where
+    by_read : (r : ReadOut) → IsHandedOut floor r (at_floor floor r)
+    by_read (out.Filled fill) = elim (cases_Bool (nat_lt fill.version floor)) [
+      | inl behind ↦ rw behind (ltb-true fill.version floor behind)
+      | inr reached ↦ rw reached (refl, ltb-false fill.version floor reached)
+    ]
+    by_read (out.Past answer version total note) = elim (cases_Bool (nat_lt version floor)) [
+      | inl behind ↦ rw behind (ltb-true version floor behind)
+      | inr reached ↦ rw reached (refl, ltb-false version floor reached)
+    ]
 
 -- a fill that a store read, which has come to the floor
 pub read_is_at : (types : EdgeTypes) (query : Query) (floor : ℕ) (fill : SealedItem) → IsFillFor types query fill → IsSealed fill → floor ≤ fill.version

@@ -10,7 +10,7 @@
 //! write or merge leaves all changesets of its entry taken and its position marked; a stand-in stays as it is. An
 //! entry that it applies has its changesets taken and nothing marked.
 //!
-//! The contracts that say so: `Leader::answer`, `write`, `merge`, `apply_entry`.
+//! The contracts that say so: `Leader::answer`, `write`, `merge`, `apply_entry`; `at_floor`.
 #![tactic(auto)]
 
 mod leader;
@@ -19,3 +19,4 @@ mod writing;
 
 pub use cache_node::{Delivered, DroppedList, DroppedLists, Item};
 pub use leader::{Leader, leaders_are_true};
+pub use reading::at_floor;

@@ -19,6 +19,40 @@ use tao_base::Query;
 use tao_keeper::Keeper;
 use tao_schema::Schema;
 
+/// What a store read, where it has come to the floor, and else the version that it has. A leader answers so, and so does a store in its place.
+pub fn at_floor(floor: u64, out: ReadOut) -> LeaderAnswer
+    ensures { result ≡ at_floor floor out }
+{
+    match out {
+        ReadOut::Filled(fill) => {
+            let version = fill.version();
+            if version < floor {
+                drop(fill);
+                return LeaderAnswer::Behind { version };
+            }
+            LeaderAnswer::Filled(fill)
+        }
+        ReadOut::Past {
+            answer,
+            version,
+            total,
+            note,
+        } => {
+            if version < floor {
+                drop(answer);
+                drop(note);
+                return LeaderAnswer::Behind { version };
+            }
+            LeaderAnswer::Past {
+                answer,
+                version,
+                total,
+                note,
+            }
+        }
+    }
+}
+
 impl Leader {
     /// Answers a read with a floor. An item of the leader's own serves where it has the floor's version or more and a front
     /// within the bound decides the query: the shortest one is handed on, as of the low-water mark, with no call of the
@@ -104,25 +138,18 @@ impl Leader {
         ensures legal { IsLegalAt (types_of _schema.now) query.now floor result }
         ensures keeps { KeepsGiven self.old result self.new }
     {
-        match out {
-            ReadOut::Filled(mut fill) => {
-                let version = fill.version();
-                if version < floor {
-                    return LeaderAnswer::Behind { version };
-                }
+        match at_floor(floor, out) {
+            LeaderAnswer::Filled(mut fill) => {
                 fills_are_sealed(&fill);
                 let _kept = self.keep_copy(&mut fill);
                 LeaderAnswer::Filled(fill)
             }
-            ReadOut::Past {
+            LeaderAnswer::Past {
                 answer,
                 version,
                 total,
                 note,
             } => {
-                if version < floor {
-                    return LeaderAnswer::Behind { version };
-                }
                 LeaderAnswer::Past {
                     answer,
                     version,
@@ -130,6 +157,7 @@ impl Leader {
                     note,
                 }
             }
+            LeaderAnswer::Behind { version } => LeaderAnswer::Behind { version },
         }
     }
 }

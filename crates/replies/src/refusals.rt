@@ -23,8 +23,6 @@ pub enum LineRefused {
     BadLine { field: Text },
     /// The data has more pairs, or is spelled in more bytes, than data may.
     TooLarge { bytes: u64, pairs: u64 },
-    /// The word is known, and not yet built.
-    NotBuilt { word: Word },
     /// The word is none that a cluster of threads takes.
     NotHere { word: Word },
 }

@@ -2,7 +2,7 @@
 use Rattle.std.specs.Prelude.{ℕ, List, [], ◌∷◌, codes}
 use Rattle.serde_json.specs.Data.{Data}
 use Rattle.replies.specs.declared.refusals.LineRefused.{LineRefused}
-use Rattle.replies.specs.declared.refusals.LineRefused.TheVariants.{BadLine, TooLarge, NotBuilt, NotHere}
+use Rattle.replies.specs.declared.refusals.LineRefused.TheVariants.{BadLine, TooLarge, NotHere}
 use Rattle.replies.specs.declared.refusals.NameRefused.{NameRefused}
 use Rattle.replies.specs.declared.refusals.NameRefused.TheVariants.{NoTier, NoNode, UnknownType, NoShard, SameType, Limit}
 use Rattle.replies.specs.declared.refusals.NodeRefused.{NodeRefused}
@@ -39,7 +39,6 @@ number_about name n word = fields ((name, whole n) ∷ (codes "no", text word) �
 abbrev pub line_refused : LineRefused → Data
 line_refused (BadLine field) = fields ((codes "field", text field) ∷ (codes "no", text (codes "bad_line")) ∷ [])
 line_refused (TooLarge bytes pairs) = fields ((codes "bytes", whole bytes) ∷ (codes "no", text (codes "too_large")) ∷ (codes "pairs", whole pairs) ∷ [])
-line_refused (NotBuilt word) = fields ((codes "do", text (word_text word)) ∷ (codes "no", text (codes "not_built")) ∷ [])
 line_refused (NotHere word) = fields ((codes "do", text (word_text word)) ∷ (codes "no", text (codes "not_here")) ∷ [])
 
 -- a plan that isn't taken further is told by its number, or by how many are held

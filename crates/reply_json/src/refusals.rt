@@ -56,15 +56,6 @@ fn put_line_refused(out: &mut Writer, refused: &LineRefused) -> Result<(), Alloc
                 ],
             )
         }
-        LineRefused::NotBuilt { word } => {
-            put_members(
-                out,
-                &[
-                    ("do", Said::Text(word.text())),
-                    ("no", Said::Text("not_built")),
-                ],
-            )
-        }
         LineRefused::NotHere { word } => {
             put_members(
                 out,

@@ -1,13 +1,12 @@
--- What is asked of stores is of regions and shards of the configuration, and keeps its word.
-use Rattle.std.proofs.Common.{◌≡◌, ℕ, List, IfOk, refl}
+-- What is asked of stores is of regions and shards of the configuration.
+use Rattle.std.proofs.Common.{ℕ, List, IfOk}
 use Rattle.requests.specs.declared.stores.StoreRequest.{StoreRequest}
 use Rattle.requests.specs.declared.stores.StoreRequest.TheVariants as request
-use Rattle.requests.specs.StoreWords.{store_word}
 use Rattle.topology.specs.Config.{Settings}
 use Rattle.request_check.specs.Calls.{checked_read_call}
 use Rattle.request_check.specs.Names.{configured_shard, region_named, store_named}
-use Rattle.request_check.specs.Stores.{IsPlacedAt, IsPlacedStore, checked_store, checked_store_word}
-use Rattle.request_check.proofs.Placing.{andthen, read_call_placed, region_placed, shard_placed, whatever}
+use Rattle.request_check.specs.Stores.{IsPlacedAt, IsPlacedStore, checked_store}
+use Rattle.request_check.proofs.Placing.{andthen, read_call_placed, region_placed, shard_placed}
 
 module _ (s : Settings) where
   store_placed : (name : List ℕ) (shard : ℕ) → IfOk (store_named s name shard) (λ store. IsPlacedAt s store.region store.shard)
@@ -20,11 +19,3 @@ module _ (s : Settings) where
   stores_placed (request.Repair shard) = andthen _ _ (configured_shard s shard) _ (shard_placed s shard) (λ u here. here)
   stores_placed request.Settle = tt
   stores_placed (request.Audit text) = andthen _ _ (checked_read_call s text) _ (read_call_placed s text) (λ r here. here)
-
-  -- the word stays
-  pub stores_say : (asked : StoreRequest) → IfOk (checked_store s asked) (λ c. checked_store_word c ≡ store_word asked)
-  stores_say (request.Stream region shard position) = whatever _ (store_named s region shard) _ (λ store. refl)
-  stores_say (request.Trim region shard position) = whatever _ (store_named s region shard) _ (λ store. refl)
-  stores_say (request.Repair shard) = whatever _ (configured_shard s shard) _ (λ u. refl)
-  stores_say request.Settle = refl
-  stores_say (request.Audit text) = whatever _ (checked_read_call s text) _ (λ r. refl)

@@ -5,8 +5,6 @@ use Rattle.topology.specs.Config.{Settings}
 use Rattle.replies.specs.declared.refusals.NameRefused.{NameRefused}
 use Rattle.requests.specs.declared.stores.StoreRequest.{StoreRequest}
 use Rattle.requests.specs.declared.stores.StoreRequest.TheVariants as request
-use Rattle.words.specs.declared.Word.{Word}
-use Rattle.words.specs.declared.Word.TheVariants as word
 use Rattle.request_check.specs.declared.stores.CheckedStore.{CheckedStore}
 use Rattle.request_check.specs.declared.stores.CheckedStore.TheVariants as checked
 use Rattle.request_check.specs.Calls.{checked_read_call}
@@ -28,14 +26,6 @@ checked_store s (request.Trim region shard position) = placed_as (λ store. chec
 checked_store s (request.Repair shard) = checked_repair s shard
 checked_store s request.Settle = Ok checked.Settle
 checked_store s (request.Audit read) = placed_as checked.Audit (checked_read_call s read)
-
--- the word of a request of stores that was checked
-abbrev pub checked_store_word : CheckedStore → Word
-checked_store_word (checked.Stream region shard position) = word.Stream
-checked_store_word (checked.Trim region shard position) = word.Trim
-checked_store_word (checked.Repair shard) = word.Repair
-checked_store_word checked.Settle = word.Settle
-checked_store_word (checked.Audit read) = word.Audit
 
 -- the store's region and its shard are the configuration's
 abbrev pub IsPlacedAt : Settings → ℕ → ℕ → Type 0

@@ -1,5 +1,5 @@
 -- What the stages of a repair come to.
-use Rattle.std.proofs.Common.{◌≡◌, ℕ, ◌≤◌, ◌<◌, Bool, List, Option, Some, None, Result, Ok, Err, IfSome, ap, refl, sym, subst, inl, inr}
+use Rattle.std.proofs.Common.{◌≡◌, ◌∙◌, ℕ, ◌≤◌, ◌<◌, Bool, List, Option, Some, None, Result, Ok, Err, IfSome, ap, refl, sym, subst, inl, inr}
 use Rattle.counts.proofs.Rises.{Rose-earlier}
 use Rattle.counts.specs.Count.{Rose}
 use Rattle.edge_repair.specs.declared.refusal.RepairRefusal.{RepairRefusal}
@@ -8,7 +8,11 @@ use Rattle.edge_repair.specs.declared.repairs.RepairOutcome.{RepairOutcome}
 use Rattle.graph_model.proofs.Later.{all_append}
 use Rattle.graph_model.specs.Told.{WhereTold}
 use Rattle.maint_msg.specs.Maints.{SeenMaint}
+use Rattle.replies.specs.declared.refusals.Refusal.{Refusal}
+use Rattle.replies.specs.declared.refusals.Refusal.TheVariants.{Memory, Store as OfStore}
+use Rattle.replies.specs.declared.refusals.StoreRefused.TheVariants as refused
 use Rattle.shard_log.specs.View.{View}
+use Rattle.shard_tables.specs.Refusals.{IsOfReads}
 use Rattle.shard_tables.specs.StoreView.{Store}
 use Rattle.shard_tables.specs.Written.{StandsIn}
 use Rattle.shard_tables.specs.declared.refusal.StoreRefusal.{StoreRefusal}
@@ -42,13 +46,13 @@ use Rattle.core_steps.proofs.LinkLemmas.{both_carries, failed_back, failed_carry
 use Rattle.core_steps.proofs.PostsLemmas.{posts_same}
 use Rattle.core_steps.proofs.NotifyLemmas.{arrived_grows, master_is, sends_both, within_master}
 use Rattle.core_steps.specs.Posting.{CanPost, PostsOn}
+use Rattle.core_steps.specs.ReadSteps.{AskFails}
+use Rattle.core_steps.specs.Replies.{refused_as}
 use Rattle.core_steps.specs.World.{World, outside_of, world, world_with}
 use Rattle.core_steps.specs.declared.nodes.Nodes.{Nodes}
 use Rattle.core_repairs.specs.Repairs.{FailsAs, FailsToMerge, FindsFirst, FindsOpenJob, IsMergedAlone, IsNotRepaired, IsNotRun}
-use Rattle.core_repairs.specs.Repairs.{LeavesRest, RunsJob, StopsRepair, NotifiesOfRepair}
-use Rattle.core_repairs.specs.Repairs.{notified_of_repair}
-use Rattle.core_repairs.specs.declared.repairs.RepairFailed.{RepairFailed}
-use Rattle.core_repairs.specs.declared.repairs.RepairFailed.TheVariants.{NoServer, Refused}
+use Rattle.core_repairs.specs.Repairs.{LeavesRest, OnlyAsks, RunsJob, StopsRepair, NotifiesOfRepair}
+use Rattle.core_repairs.specs.Repairs.{notified_of_repair, refused_for}
 
 -- ---- who is told
 
@@ -89,41 +93,44 @@ module _ (tells : Bool) (s : Settings) (shard : ℕ) (old new : KeeperState) whe
   finds_first None least first stays = (least, stays)
   finds_first (Some job) least first stays = record { first = first; tables = stays }
 
-  pub refuses_first : (refusal : StoreRefusal) (failed : RepairFailed) → FailsAs refusal failed → KeepsTables tells old new
-      → (refusal ≡ store.KeeperFault → Rose old.faults new.faults) → FindsFirst tells s shard (Err failed) old new
-  refuses_first store.KeeperFault failed is stays cause =
-      let finds : FindsFirst tells s shard (Err (Refused KeeperFault)) old new = (cause refl, stays) in
-      subst (λ f. FindsFirst tells s shard (Err f) old new) (sym is) finds
-  refuses_first store.OutOfMemory failed is stays cause =
-      let finds : FindsFirst tells s shard (Err (Refused OutOfMemory)) old new = stays in
-      subst (λ f. FindsFirst tells s shard (Err f) old new) (sym is) finds
-  refuses_first (store.LogFull count) failed is stays cause = absurd is
-  refuses_first (store.ShardFull serial) failed is stays cause = absurd is
-  refuses_first (store.StampFull number) failed is stays cause = absurd is
-  refuses_first (store.TooOld cut position) failed is stays cause = absurd is
-  refuses_first (store.SeqReused position) failed is stays cause = absurd is
+  asks_fail : (refusal : StoreRefusal) → IsOfReads refusal → (refusal ≡ store.KeeperFault → Rose old.faults new.faults)
+      → AskFails (refused_as new.faults refusal) old new
+  asks_fail store.KeeperFault of cause = (refl, cause refl)
+  asks_fail store.OutOfMemory of cause = refl
+  asks_fail (store.LogFull count) of cause = absurd of
+  asks_fail (store.ShardFull serial) of cause = absurd of
+  asks_fail (store.StampFull number) of cause = absurd of
+  asks_fail (store.TooOld cut position) of cause = absurd of
+  asks_fail (store.SeqReused position) of cause = absurd of
+
+  pub refuses_first : (refusal : StoreRefusal) (given : Refusal) (faults : ℕ) → given ≡ refused_as faults refusal → faults ≡ new.faults
+      → IsOfReads refusal → KeepsTables tells old new → (refusal ≡ store.KeeperFault → Rose old.faults new.faults)
+      → FindsFirst tells s shard (Err given) old new
+  refuses_first refusal given faults is counted of stays cause =
+      let told : given ≡ refused_as new.faults refusal = is ∙ ap (λ n. refused_as n refusal) counted in
+      (subst (λ r. AskFails r old new) (sym told) (asks_fail refusal of cause), stays)
 
 -- ---- the merge, and the end
 
 module _ (tells : Bool) (s : Settings) (j : ShardJob) (old new : Outside) where
   not_merged : (refusal : RepairRefusal) → MergesFar tells s j (Err refusal) old new
-      → (refusal ≡ KeeperFault → Rose old.keepers.faults new.keepers.faults) → RunsJob tells s j (Err (Refused refusal)) old new
+      → (refusal ≡ KeeperFault → Rose old.keepers.faults new.keepers.faults) → RunsJob tells s j (Err refusal) old new
   not_merged KeeperFault merges cause = (cause refl, inl merges)
   not_merged LinkFault merges cause = merges
   not_merged (LogFull count) merges cause = merges
   not_merged OutOfMemory merges cause = inl merges
 
-  pub refuses_merge : (refusal : RepairRefusal) (failed : RepairFailed) → failed ≡ Refused refusal → MergesFar tells s j (Err refusal) old new
+  pub refuses_merge : (refusal failed : RepairRefusal) → failed ≡ refusal → MergesFar tells s j (Err refusal) old new
       → (refusal ≡ KeeperFault → Rose old.keepers.faults new.keepers.faults) → RunsJob tells s j (Err failed) old new
   refuses_merge refusal failed is merges cause = subst (λ f. RunsJob tells s j (Err f) old new) (sym is) (not_merged refusal merges cause)
 
-  pub refuses_end : (refusal : StoreRefusal) (failed : RepairFailed) → FailsAs refusal failed → IsMergedAlone tells s j old new
+  pub refuses_end : (refusal : StoreRefusal) (failed : RepairRefusal) → FailsAs refusal failed → IsMergedAlone tells s j old new
       → (refusal ≡ store.KeeperFault → Rose old.keepers.faults new.keepers.faults) → RunsJob tells s j (Err failed) old new
   refuses_end store.KeeperFault failed is alone cause =
-      let runs : RunsJob tells s j (Err (Refused KeeperFault)) old new = (cause refl, inr alone) in
+      let runs : RunsJob tells s j (Err KeeperFault) old new = (cause refl, inr alone) in
       subst (λ f. RunsJob tells s j (Err f) old new) (sym is) runs
   refuses_end store.OutOfMemory failed is alone cause =
-      let runs : RunsJob tells s j (Err (Refused OutOfMemory)) old new = inr alone in
+      let runs : RunsJob tells s j (Err OutOfMemory) old new = inr alone in
       subst (λ f. RunsJob tells s j (Err f) old new) (sym is) runs
   refuses_end (store.LogFull count) failed is alone cause = absurd is
   refuses_end (store.ShardFull serial) failed is alone cause = absurd is
@@ -145,6 +152,12 @@ leaves_rest was new asked before after from to same rest = record {
 }
 
 module _ (tells : Bool) (s : Settings) (shard : ℕ) (old new : World) where
+  -- it was not found, or memory was wanting before it was merged
+  pub not_begun : (refusal : Refusal) → AskFails refusal old.keepers new.keepers → OnlyAsks tells old new → IsNotRepaired tells s shard refusal old new
+  not_begun (OfStore (refused.KeeperFault count)) fails asks = (fails.0, fails.1, inl asks)
+  not_begun (Memory position) fails asks = (fails, inl asks)
+  not_begun refusal fails asks = absurd fails
+
   module _ (job : Job) (found : KeeperState) (finds : FindsOpenJob tells s shard job old.keepers found) where
     -- it was not run
     module _ (rest : LeavesRest old new) where
@@ -165,16 +178,25 @@ module _ (tells : Bool) (s : Settings) (shard : ℕ) (old new : World) where
         rest = rest;
       }))
 
-      pub not_run : (failed : RepairFailed) → RunsJob tells s (job_on shard job) (Err failed) (outside found old.link) (outside_of new)
-          → IsLater old.keepers found → IsNotRepaired tells s shard failed old new
-      not_run (Refused KeeperFault) runs later = (
+      told_so : (failed : RepairRefusal) → RunsJob tells s (job_on shard job) (Err failed) (outside found old.link) (outside_of new)
+          → IsLater old.keepers found → IsNotRepaired tells s shard (refused_for new.keepers.faults new.link.faults failed) old new
+      told_so KeeperFault runs later = (
+        refl,
         Rose-earlier old.keepers.faults found.faults new.keepers.faults later.faults runs.0,
         stops KeeperFault runs.1,
       )
-      not_run (Refused LinkFault) runs later = fails_merge LinkFault runs
-      not_run (Refused (LogFull count)) runs later = fails_merge (LogFull count) runs
-      not_run (Refused OutOfMemory) runs later = stops OutOfMemory runs
-      not_run NoServer runs later = absurd runs
+      told_so LinkFault runs later = (refl, refl, fails_merge LinkFault runs)
+      told_so (LogFull count) runs later = fails_merge (LogFull count) runs
+      told_so OutOfMemory runs later = (refl, stops OutOfMemory runs)
+
+      pub not_run : (failed : RepairRefusal) (given : Refusal) (keeper_faults link_faults : ℕ) → given ≡ refused_for keeper_faults link_faults failed
+          → keeper_faults ≡ new.keepers.faults → link_faults ≡ new.link.faults
+          → RunsJob tells s (job_on shard job) (Err failed) (outside found old.link) (outside_of new)
+          → IsLater old.keepers found → IsNotRepaired tells s shard given old new
+      not_run failed given keeper_faults link_faults is keepers link runs later =
+          let told : given ≡ refused_for new.keepers.faults new.link.faults failed =
+          is ∙ ap (λ n. refused_for n link_faults failed) keepers ∙ ap (λ n. refused_for new.keepers.faults n failed) link in
+          subst (λ r. IsNotRepaired tells s shard r old new) (sym told) (told_so failed runs later)
 
 -- ---- the link
 

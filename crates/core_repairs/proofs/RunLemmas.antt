@@ -12,6 +12,10 @@ use Rattle.graph_model.specs.Soundness.{EdgeUpdate}
 use Rattle.graph_model.specs.Told.{WhereTold}
 use Rattle.master_tables.proofs.Calls.{tables_are_stores}
 use Rattle.master_tables.proofs.Each.{each_length}
+use Rattle.replies.specs.declared.refusals.NodeRefused.TheVariants.{NoServer}
+use Rattle.replies.specs.declared.refusals.Refusal.{Refusal}
+use Rattle.replies.specs.declared.refusals.Refusal.TheVariants.{Memory, Node as OfNode, Store as OfStore}
+use Rattle.replies.specs.declared.refusals.StoreRefused.TheVariants as refused
 use Rattle.tao_base.specs.EdgeTypes.{InversesMatch}
 use Rattle.tao_keeper.proofs.Later.{later_self}
 use Rattle.tao_keeper.specs.KeeperState.{IsLater}
@@ -34,10 +38,9 @@ use Rattle.core_steps.proofs.LinkLemmas.{both_carries, link_stays, link_trans}
 use Rattle.core_steps.specs.World.{World}
 use Rattle.core_repairs.specs.Repairs.{AreSettling, FailsToEnd, FailsToMerge, FindsNoJob, FailureHasCause, HasNoneUpTo, HaveNoneBelow, HaveRun}
 use Rattle.core_repairs.specs.Repairs.{IsNotRepaired, IsRepaired, OnlyAsks, RanOn, RepairsFirst, RunsAll, RunsTo, SettlesLogs}
-use Rattle.core_repairs.specs.Repairs.{StopsRepair, StopsRun, ran_on, stop_of}
+use Rattle.core_repairs.specs.Repairs.{StopsRepair, StopsRun, ran_on}
+use Rattle.core_repairs.specs.Stops.{IsOfSettles, StopsAsRefused}
 use Rattle.core_repairs.specs.declared.repairs.Ran.{Ran}
-use Rattle.core_repairs.specs.declared.repairs.RepairFailed.{RepairFailed}
-use Rattle.core_repairs.specs.declared.repairs.RepairFailed.TheVariants.{NoServer, Refused}
 
 -- ---- keepers that were only asked
 
@@ -83,30 +86,38 @@ module _ (tells : Bool) (s : Settings) (shard : ℕ) (old new : World) where
   stops_leave refusal (inr (inl fails)) = fails.rest.caches.fleet
   stops_leave refusal (inr (inr fails)) = fails.rest.caches.fleet
 
-  not_repaired_leaves : (failed : RepairFailed) → IsNotRepaired tells s shard failed old new → ChangesStoresAlone old.fleet new.fleet
-  not_repaired_leaves NoServer is = same_fleet old.fleet new.fleet is.asks.nodes.fleet
-  not_repaired_leaves (Refused KeeperFault) is = stops_leave KeeperFault is.1
-  not_repaired_leaves (Refused LinkFault) is = is.rest.caches.fleet
-  not_repaired_leaves (Refused (LogFull count)) is = is.rest.caches.fleet
-  not_repaired_leaves (Refused OutOfMemory) is = stops_leave OutOfMemory is
+  not_repaired_leaves : (r : Refusal) → IsNotRepaired tells s shard r old new → ChangesStoresAlone old.fleet new.fleet
+  not_repaired_leaves (OfNode (NoServer region)) is = same_fleet old.fleet new.fleet is.1.asks.nodes.fleet
+  not_repaired_leaves (OfStore (refused.KeeperFault count)) is = stops_leave KeeperFault is.2
+  not_repaired_leaves (OfStore (refused.LinkFault count when)) is = is.2.rest.caches.fleet
+  not_repaired_leaves (OfStore (refused.LogFull count)) is = is.rest.caches.fleet
+  not_repaired_leaves (Memory position) is = stops_leave OutOfMemory is.1
+  not_repaired_leaves r is = absurd is
 
-  pub first_leaves : (result : Result (Option Ran) RepairFailed) → RepairsFirst tells s shard result old new → ChangesStoresAlone old.fleet new.fleet
+  pub first_leaves : (result : Result (Option Ran) Refusal) → RepairsFirst tells s shard result old new → ChangesStoresAlone old.fleet new.fleet
   first_leaves (Ok None) is = same_fleet old.fleet new.fleet is.asks.nodes.fleet
   first_leaves (Ok (Some ran)) is = is.caches.fleet
-  first_leaves (Err failed) is = not_repaired_leaves failed is
+  first_leaves (Err r) is = not_repaired_leaves r is
+
+  -- a settle stops with each
+  pub of_repair : (r : Refusal) → IsNotRepaired tells s shard r old new → IsOfSettles r
+  of_repair (OfNode (NoServer region)) is = tt
+  of_repair (OfStore (refused.KeeperFault count)) is = tt
+  of_repair (OfStore (refused.LinkFault count when)) is = tt
+  of_repair (OfStore (refused.LogFull count)) is = tt
+  of_repair (Memory position) is = tt
+  of_repair r is = absurd is
 
   -- a fault is told only where its count rose
-  has_cause : (start : World) (failed : RepairFailed) → IsLaterLink start.link old.link → IsLater start.keepers old.keepers
-      → IsNotRepaired tells s shard failed old new → FailureHasCause failed start new
-  has_cause start NoServer link keepers is = tt
-  has_cause start (Refused KeeperFault) link keepers is =
-      Rose-earlier start.keepers.faults old.keepers.faults new.keepers.faults keepers.faults is.0
-  has_cause start (Refused LinkFault) link keepers is = elim is.merges [
+  has_cause : (start : World) (r : Refusal) → IsLaterLink start.link old.link → IsLater start.keepers old.keepers
+      → IsNotRepaired tells s shard r old new → FailureHasCause r start new
+  has_cause start (OfStore (refused.KeeperFault count)) link keepers is =
+      Rose-earlier start.keepers.faults old.keepers.faults new.keepers.faults keepers.faults is.1
+  has_cause start (OfStore (refused.LinkFault count when)) link keepers is = elim is.2.merges [
     | inl there ↦ Rose-earlier start.link.faults old.link.faults new.link.faults link.faults there.0.rose
     | inr back ↦ Rose-earlier start.link.faults old.link.faults new.link.faults link.faults back.0.rose
   ]
-  has_cause start (Refused (LogFull count)) link keepers is = tt
-  has_cause start (Refused OutOfMemory) link keepers is = tt
+  has_cause start r link keepers is = tt
 
 pub rest_trans : (a b c : Fleet) → ChangesStoresAlone a b → ChangesStoresAlone b c → ChangesStoresAlone a c
 rest_trans a b c p q = q ∙ ap (λ (f : Fleet). record f { stores = c.stores }) p
@@ -273,12 +284,13 @@ module _ (tells : Bool) (s : Settings) (shard : ℕ) (old new : World) (told : t
   stops_half refusal (inr (inl fails)) = half_by refusal fails
   stops_half refusal (inr (inr fails)) = end_half fails
 
-  halfway : (failed : RepairFailed) → IsNotRepaired tells s shard failed old new → IsHalfway s shard old.keepers.told new.keepers.told
-  halfway NoServer is = asks_half is.asks
-  halfway (Refused KeeperFault) is = stops_half KeeperFault is.1
-  halfway (Refused LinkFault) is = half_by LinkFault is
-  halfway (Refused (LogFull count)) is = half_by (LogFull count) is
-  halfway (Refused OutOfMemory) is = stops_half OutOfMemory is
+  halfway : (r : Refusal) → IsNotRepaired tells s shard r old new → IsHalfway s shard old.keepers.told new.keepers.told
+  halfway (OfNode (NoServer region)) is = asks_half is.1.asks
+  halfway (OfStore (refused.KeeperFault count)) is = stops_half KeeperFault is.2
+  halfway (OfStore (refused.LinkFault count when)) is = half_by LinkFault is.2
+  halfway (OfStore (refused.LogFull count)) is = half_by (LogFull count) is
+  halfway (Memory position) is = stops_half OutOfMemory is.1
+  halfway r is = absurd is
 
 -- ---- a settle under way
 
@@ -331,11 +343,11 @@ module _ (tells : Bool) (s : Settings) (shard : ℕ) (old new : World) where
   }
 
   -- one that isn't run stops it
-  pub stops_run : (failed : RepairFailed) (given : SettleStop) → shard < s.shards → given ≡ stop_of shard failed → IsNotRepaired tells s shard failed old new
+  pub stops_run : (r : Refusal) (given : SettleStop) → shard < s.shards → StopsAsRefused shard r given → IsNotRepaired tells s shard r old new
       → (start : World) → RunsTo tells s shard start old → StopsRun tells s given start new
-  stops_run failed given here is stops start so = record {
+  stops_run r given here is stops start so = record {
     shard = shard;
-    failed = failed;
+    refusal = r;
     jobs = so.jobs;
     between = old;
     here = here;
@@ -343,9 +355,9 @@ module _ (tells : Bool) (s : Settings) (shard : ℕ) (old new : World) where
     run = so.run;
     none = so.none;
     stops = stops;
-    cause = has_cause tells s shard old new start failed (run_on tells s so.jobs start old so.run) so.keepers stops;
+    cause = has_cause tells s shard old new start r (run_on tells s so.jobs start old so.run) so.keepers stops;
     settles = λ told. settles_to s shard start.keepers.told old.keepers.told new.keepers.told (so.none told) (so.settling told)
-        (halfway tells s shard old new told failed stops);
+        (halfway tells s shard old new told r stops);
   }
 
 -- a keeper that tells its tables gives no job twice

@@ -32,8 +32,9 @@ use Rattle.core_steps.proofs.LinkLemmas.{carried_on, link_stays, link_trans}
 use Rattle.core_steps.specs.Posting.{ChangesNoNode}
 use Rattle.core_steps.specs.Streams.{NeedsNoCarry, OnlyReadsKeepers, RefusesStream, StreamsEntry, StreamsNothing, StreamsOver, TakesAs}
 use Rattle.core_steps.specs.World.{World}
-use Rattle.core_repairs.specs.Streams.{AreUpTo, AreWholeBefore, HaveStreamed, IsOfNextStep, IsStreamedBefore, IsStreamedUpTo}
-use Rattle.core_repairs.specs.Streams.{StopsAsRefused, StopsStreams, StreamStep, StreamStopHasCause, StreamsAll, StreamsFrom, StreamsOnce, StreamsTill}
+use Rattle.core_repairs.specs.Stops.{IsOfSettles, StopsAsRefused}
+use Rattle.core_repairs.specs.Streams.{AreUpTo, AreWholeBefore, HaveStreamed, IsStreamedBefore, IsStreamedUpTo}
+use Rattle.core_repairs.specs.Streams.{StopsStreams, StreamStep, StreamStopHasCause, StreamsAll, StreamsFrom, StreamsOnce, StreamsTill}
 use Rattle.core_repairs.specs.Streams.{asks_next, goes_further, step_into}
 
 -- ---- keepers that were only read
@@ -165,7 +166,7 @@ up_to_region region shard steps =
 
 -- refused, it changes no node
 module _ (tells : Bool) (s : Settings) (at : StoreName) (old new : World) where
-  pub of_next_step : (r : Refusal) → RefusesStream tells s (asks_next at) r old new → IsOfNextStep r
+  pub of_next_step : (r : Refusal) → RefusesStream tells s (asks_next at) r old new → IsOfSettles r
   of_next_step (refusal.Store (store.KeeperFault count)) is = tt
   of_next_step (refusal.Store (store.LinkFault count when)) is = tt
   of_next_step (refusal.Memory position) is = tt
@@ -223,6 +224,7 @@ module _ (tells : Bool) (s : Settings) (at : StoreName) (old new : World) where
   refused_cause start (refusal.Store (store.StampFull number)) given link keepers stops is = absurd is
   refused_cause start (refusal.Store (store.LogFull count)) given link keepers stops is = absurd is
   refused_cause start (refusal.Store (store.Unsettled shard why)) given link keepers stops is = absurd is
+  refused_cause start (refusal.Node (node.NoServer region)) given link keepers stops is = absurd is
   refused_cause start (refusal.Node other) given link keepers stops is = absurd stops
   refused_cause start (refusal.Line other) given link keepers stops is = absurd is
   refused_cause start (refusal.Plan other) given link keepers stops is = absurd is

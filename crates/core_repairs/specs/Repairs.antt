@@ -8,12 +8,15 @@ use Rattle.core_model.specs.Stores.{master_store, stores_in}
 use Rattle.core_nodes.specs.Repairs.{MergesFar}
 use Rattle.core_nodes.specs.Outside.{Outside, outside}
 use Rattle.core_nodes.specs.declared.settling.SettleStop.{SettleStop}
-use Rattle.core_nodes.specs.declared.settling.SettleStop.TheVariants as stop
 use Rattle.edge_repair.specs.declared.refusal.RepairRefusal.{RepairRefusal}
 use Rattle.edge_repair.specs.declared.refusal.RepairRefusal.TheVariants.{KeeperFault, LinkFault, LogFull, OutOfMemory}
 use Rattle.graph_model.specs.Told.{WhereTold}
 use Rattle.node_name.specs.declared.NodeName.{NodeName}
-use Rattle.replies.specs.declared.refusals.UnsettledWhy.TheVariants as why
+use Rattle.replies.specs.declared.refusals.NodeRefused.TheVariants.{NoServer}
+use Rattle.replies.specs.declared.refusals.Refusal.{Refusal}
+use Rattle.replies.specs.declared.refusals.Refusal.TheVariants.{Memory, Node as OfNode, Store}
+use Rattle.replies.specs.declared.refusals.StoreRefused.TheVariants as refused
+use Rattle.replies.specs.declared.refusals.When.TheVariants.{Before}
 use Rattle.shard_log.specs.View.{View}
 use Rattle.shard_tables.specs.declared.refusal.StoreRefusal.{StoreRefusal}
 use Rattle.shard_tables.specs.declared.refusal.StoreRefusal.TheVariants as refusal
@@ -29,10 +32,10 @@ use Rattle.write_model.specs.Merges.{JobSource}
 use Rattle.write_model.specs.Machine.{Settles}
 use Rattle.write_model.specs.Steps.{HaveNoJobs, Settling}
 use Rattle.core_steps.specs.Posting.{ChangesNoNode}
+use Rattle.core_steps.specs.ReadSteps.{AskFails}
 use Rattle.core_steps.specs.World.{World, outside_of}
+use Rattle.core_repairs.specs.Stops.{StopsAsRefused}
 use Rattle.core_repairs.specs.declared.repairs.Ran.{Ran}
-use Rattle.core_repairs.specs.declared.repairs.RepairFailed.{RepairFailed}
-use Rattle.core_repairs.specs.declared.repairs.RepairFailed.TheVariants.{NoServer, Refused}
 
 -- ---- who is told
 
@@ -79,10 +82,17 @@ pub record IsRepaired (tells : Bool) (s : Settings) (shard : ℕ) (ran : Ran) (o
 
 -- ---- the stages of a repair
 
--- why a job was not run which its store refused to give, or to end
-abbrev pub FailsAs : StoreRefusal → RepairFailed → Type 0
-FailsAs refusal.KeeperFault failed = failed ≡ Refused KeeperFault
-FailsAs refusal.OutOfMemory failed = failed ≡ Refused OutOfMemory
+-- how it is told why a job was not run, where the keepers and the link have counted so many faults
+abbrev pub refused_for : ℕ → ℕ → RepairRefusal → Refusal
+refused_for keeper_faults link_faults KeeperFault = Store (refused.KeeperFault keeper_faults)
+refused_for keeper_faults link_faults LinkFault = Store (refused.LinkFault link_faults Before)
+refused_for keeper_faults link_faults (LogFull count) = Store (refused.LogFull count)
+refused_for keeper_faults link_faults OutOfMemory = Memory 0
+
+-- why a job was not run which its store refused to end
+abbrev pub FailsAs : StoreRefusal → RepairRefusal → Type 0
+FailsAs refusal.KeeperFault failed = failed ≡ KeeperFault
+FailsAs refusal.OutOfMemory failed = failed ≡ OutOfMemory
 FailsAs (refusal.LogFull count) failed = ⊥
 FailsAs (refusal.ShardFull serial) failed = ⊥
 FailsAs (refusal.StampFull number) failed = ⊥
@@ -90,14 +100,10 @@ FailsAs (refusal.TooOld cut position) failed = ⊥
 FailsAs (refusal.SeqReused position) failed = ⊥
 
 -- the first job is found, or none is, or its store refused to give it
-abbrev pub FindsFirst : Bool → Settings → ℕ → Result (Option Job) RepairFailed → KeeperState → KeeperState → Type 0
+abbrev pub FindsFirst : Bool → Settings → ℕ → Result (Option Job) Refusal → KeeperState → KeeperState → Type 0
 FindsFirst tells s shard (Ok None) old new = WhereTold tells (IsLeastJob (old.told (master_store s shard)).jobs None) × KeepsTables tells old new
 FindsFirst tells s shard (Ok (Some job)) old new = FindsOpenJob tells s shard job old new
-FindsFirst tells s shard (Err (Refused KeeperFault)) old new = Rose old.faults new.faults × KeepsTables tells old new
-FindsFirst tells s shard (Err (Refused OutOfMemory)) old new = KeepsTables tells old new
-FindsFirst tells s shard (Err (Refused LinkFault)) old new = ⊥
-FindsFirst tells s shard (Err (Refused (LogFull count))) old new = ⊥
-FindsFirst tells s shard (Err NoServer) old new = ⊥
+FindsFirst tells s shard (Err refusal) old new = AskFails refusal old new × KeepsTables tells old new
 
 -- the job was merged, and then ended
 pub record IsRun (tells : Bool) (s : Settings) (j : ShardJob) (wrote : Option Entry) (old new : Outside) : Type 0 where
@@ -117,13 +123,12 @@ abbrev pub IsNotRun : Bool → Settings → ShardJob → RepairRefusal → Outsi
 IsNotRun tells s j refusal old new = MergesFar tells s j (Err refusal) old new ⊎ IsMergedAlone tells s j old new
 
 -- what came of both
-abbrev pub RunsJob : Bool → Settings → ShardJob → Result (Option Entry) RepairFailed → Outside → Outside → Type 0
+abbrev pub RunsJob : Bool → Settings → ShardJob → Result (Option Entry) RepairRefusal → Outside → Outside → Type 0
 RunsJob tells s j (Ok wrote) old new = IsRun tells s j wrote old new
-RunsJob tells s j (Err (Refused KeeperFault)) old new = Rose old.keepers.faults new.keepers.faults × IsNotRun tells s j KeeperFault old new
-RunsJob tells s j (Err (Refused LinkFault)) old new = MergesFar tells s j (Err LinkFault) old new
-RunsJob tells s j (Err (Refused (LogFull count))) old new = MergesFar tells s j (Err (LogFull count)) old new
-RunsJob tells s j (Err (Refused OutOfMemory)) old new = IsNotRun tells s j OutOfMemory old new
-RunsJob tells s j (Err NoServer) old new = ⊥
+RunsJob tells s j (Err KeeperFault) old new = Rose old.keepers.faults new.keepers.faults × IsNotRun tells s j KeeperFault old new
+RunsJob tells s j (Err LinkFault) old new = MergesFar tells s j (Err LinkFault) old new
+RunsJob tells s j (Err (LogFull count)) old new = MergesFar tells s j (Err (LogFull count)) old new
+RunsJob tells s j (Err OutOfMemory) old new = IsNotRun tells s j OutOfMemory old new
 
 -- ---- why it was not run
 
@@ -163,19 +168,21 @@ StopsRepair tells s shard refusal old new =
     OnlyAsks tells old new ⊎ (FailsToMerge tells s shard refusal old new ⊎ FailsToEnd tells s shard old new)
 
 -- why a shard's first job was not run, and what was done all the same
-abbrev pub IsNotRepaired : Bool → Settings → ℕ → RepairFailed → World → World → Type 0
-IsNotRepaired tells s shard NoServer old new = LiesNowhere tells s shard old new
-IsNotRepaired tells s shard (Refused KeeperFault) old new =
-    Rose old.keepers.faults new.keepers.faults × StopsRepair tells s shard KeeperFault old new
-IsNotRepaired tells s shard (Refused LinkFault) old new = FailsToMerge tells s shard LinkFault old new
-IsNotRepaired tells s shard (Refused (LogFull count)) old new = FailsToMerge tells s shard (LogFull count) old new
-IsNotRepaired tells s shard (Refused OutOfMemory) old new = StopsRepair tells s shard OutOfMemory old new
+abbrev pub IsNotRepaired : Bool → Settings → ℕ → Refusal → World → World → Type 0
+IsNotRepaired tells s shard (OfNode (NoServer region)) old new = (region ≡ master_region old.states shard) × LiesNowhere tells s shard old new
+IsNotRepaired tells s shard (Store (refused.KeeperFault count)) old new =
+    (count ≡ new.keepers.faults) × Rose old.keepers.faults new.keepers.faults × StopsRepair tells s shard KeeperFault old new
+IsNotRepaired tells s shard (Store (refused.LinkFault count when)) old new =
+    (count ≡ new.link.faults) × (when ≡ Before) × FailsToMerge tells s shard LinkFault old new
+IsNotRepaired tells s shard (Store (refused.LogFull count)) old new = FailsToMerge tells s shard (LogFull count) old new
+IsNotRepaired tells s shard (Memory position) old new = (position ≡ 0) × StopsRepair tells s shard OutOfMemory old new
+IsNotRepaired tells s shard refusal old new = ⊥
 
 -- what came of the first job of a shard
-abbrev pub RepairsFirst : Bool → Settings → ℕ → Result (Option Ran) RepairFailed → World → World → Type 0
+abbrev pub RepairsFirst : Bool → Settings → ℕ → Result (Option Ran) Refusal → World → World → Type 0
 RepairsFirst tells s shard (Ok None) old new = FindsNoJob tells s shard old new
 RepairsFirst tells s shard (Ok (Some ran)) old new = IsRepaired tells s shard ran old new
-RepairsFirst tells s shard (Err failed) old new = IsNotRepaired tells s shard failed old new
+RepairsFirst tells s shard (Err refusal) old new = IsNotRepaired tells s shard refusal old new
 
 -- ---- all jobs
 
@@ -205,21 +212,11 @@ pub record RunsAll (tells : Bool) (s : Settings) (old new : World) : Type 0 wher
   pub settles : WhereTold tells (SettlesLogs s old.keepers.told new.keepers.told)
   pub none : WhereTold tells (HaveNoJobs (stores_in s new.keepers.told))
 
--- what a settle stops with at a shard
-abbrev pub stop_of : ℕ → RepairFailed → SettleStop
-stop_of shard NoServer = stop.NoServer shard
-stop_of shard (Refused KeeperFault) = stop.Unsettled shard why.KeeperFault
-stop_of shard (Refused LinkFault) = stop.Unsettled shard why.LinkFault
-stop_of shard (Refused (LogFull count)) = stop.Unsettled shard why.LogFull
-stop_of shard (Refused OutOfMemory) = stop.OutOfMemory
-
 -- a fault is told only where its count rose
-abbrev pub FailureHasCause : RepairFailed → World → World → Type 0
-FailureHasCause (Refused KeeperFault) old new = Rose old.keepers.faults new.keepers.faults
-FailureHasCause (Refused LinkFault) old new = Rose old.link.faults new.link.faults
-FailureHasCause (Refused (LogFull count)) old new = ⊤
-FailureHasCause (Refused OutOfMemory) old new = ⊤
-FailureHasCause NoServer old new = ⊤
+abbrev pub FailureHasCause : Refusal → World → World → Type 0
+FailureHasCause (Store (refused.KeeperFault count)) old new = Rose old.keepers.faults new.keepers.faults
+FailureHasCause (Store (refused.LinkFault count when)) old new = Rose old.link.faults new.link.faults
+FailureHasCause refusal old new = ⊤
 
 -- no lower shard has an open job
 abbrev pub HaveNoneBelow : Settings → Tables → ℕ → Type 0
@@ -228,15 +225,15 @@ HaveNoneBelow s tables shard = (lower position : ℕ) → lower < shard → (sto
 -- some jobs were run, up to those of a shard, and then one of it was not
 pub record StopsRun (tells : Bool) (s : Settings) (given : SettleStop) (old new : World) : Type 0 where
   pub shard : ℕ
-  pub failed : RepairFailed
+  pub refusal : Refusal
   pub jobs : List RanOn
   pub between : World
   pub here : shard < s.shards
-  pub given_is : given ≡ stop_of shard failed
+  pub given_is : StopsAsRefused shard refusal given
   pub run : HaveRun tells s jobs old between
   pub none : WhereTold tells (HaveNoneBelow s between.keepers.told shard)
-  pub stops : IsNotRepaired tells s shard failed between new
-  pub cause : FailureHasCause failed old new
+  pub stops : IsNotRepaired tells s shard refusal between new
+  pub cause : FailureHasCause refusal old new
   pub settles : WhereTold tells (SettlesLogs s old.keepers.told new.keepers.told)
 
 -- what came of all open jobs

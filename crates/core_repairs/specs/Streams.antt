@@ -14,13 +14,12 @@ use Rattle.replies.specs.declared.nodes.StreamVerdict.{StreamVerdict}
 use Rattle.replies.specs.declared.nodes.StreamVerdict.TheVariants as verdict
 use Rattle.replies.specs.declared.nodes.Streamed.{Streamed}
 use Rattle.replies.specs.declared.refusals.Refusal.{Refusal}
-use Rattle.replies.specs.declared.refusals.Refusal.TheVariants.{Memory, Store}
-use Rattle.replies.specs.declared.refusals.StoreRefused.TheVariants.{KeeperFault, LinkFault}
 use Rattle.replies.specs.declared.refusals.UnsettledWhy.TheVariants as why
 use Rattle.tao_base.specs.declared.id.StoreName.{StoreName}
 use Rattle.tao_keeper.specs.KeeperState.{IsLater}
 use Rattle.tao_keeper.specs.Table.{Tables}
 use Rattle.topology.specs.Config.{Settings}
+use Rattle.core_repairs.specs.Stops.{StopsAsRefused}
 
 -- ---- their order
 
@@ -76,13 +75,6 @@ pub record StreamsAll (tells : Bool) (s : Settings) (old new : World) : Type 0 w
   pub whole : WhereTold tells (AreWhole s new.keepers.told)
   pub shards : WhereTold tells (stores_in s new.keepers.told ≡ stores_in s old.keepers.told)
 
--- what a settle stops with where a step into a store of the shard is refused
-abbrev pub StopsAsRefused : ℕ → Refusal → SettleStop → Type 0
-StopsAsRefused shard (Store (KeeperFault count)) given = given ≡ stop.Unsettled shard why.KeeperFault
-StopsAsRefused shard (Store (LinkFault count when)) given = given ≡ stop.Unsettled shard why.LinkFault
-StopsAsRefused shard (Memory position) given = given ≡ stop.OutOfMemory
-StopsAsRefused shard refusal given = ⊥
-
 -- the streams of a settle stop at a fault only where the fault's count rose, and never for a full log, nor for a shard that isn't configured
 abbrev pub StreamStopHasCause : SettleStop → World → World → Type 0
 StreamStopHasCause (stop.Unsettled shard why.KeeperFault) old new = Rose old.keepers.faults new.keepers.faults
@@ -112,13 +104,6 @@ RunsStreams tells s (Ok done) old new = StreamsAll tells s old new
 RunsStreams tells s (Err given) old new = StopsStreams tells s given old new
 
 -- ---- one step
-
--- without a position, a step of a stream is refused for a fault or as out of memory alone
-abbrev pub IsOfNextStep : Refusal → Type 0
-IsOfNextStep (Store (KeeperFault count)) = ⊤
-IsOfNextStep (Store (LinkFault count when)) = ⊤
-IsOfNextStep (Memory position) = ⊤
-IsOfNextStep refusal = ⊥
 
 -- a step into the store was refused, and this is what a settle stops with
 pub record RefusesStep (tells : Bool) (s : Settings) (at : StoreName) (given : SettleStop) (old new : World) : Type 0 where

@@ -19,8 +19,9 @@
 
 mod repairs;
 mod runs;
+mod stops;
 mod streams;
 
-pub use repairs::{Ran, RepairFailed, repair_first};
+pub use repairs::{Ran, repair_first};
 pub use runs::run_jobs;
 pub use streams::run_streams;

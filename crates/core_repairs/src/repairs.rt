@@ -9,7 +9,7 @@ ghost use Rattle.core_model.specs.Stores.{AreStores, store_count};
 ghost use Rattle.core_nodes.specs.Outside.{outside};
 ghost use Rattle.core_steps.specs.Posting.{CanPost, PostsOn};
 ghost use Rattle.core_steps.specs.World.{world};
-ghost use Rattle.core_repairs.specs.Repairs.{FailsAs, FindsFirst, RepairsFirst, RunsJob, NotifiesOfRepair};
+ghost use Rattle.core_repairs.specs.Repairs.{FailsAs, FindsFirst, RepairsFirst, RunsJob, NotifiesOfRepair, refused_for};
 ghost use Rattle.graph_model.specs.Told.{WhereTold};
 ghost use Rattle.shard_log.specs.View.{as_note};
 ghost use Rattle.shard_tables.specs.Refusals.{IsOfReads};
@@ -19,8 +19,9 @@ ghost use Rattle.tao_keeper.specs.KeeperState.{IsLater, KeepsTables};
 
 use core_model::{ShardJob, far_shard, masters_are_regions};
 use core_nodes::Fleet;
-use core_steps::Nodes;
+use core_steps::{Nodes, link_fault, refused_as};
 use edge_repair::{RepairRefusal, passed_on};
+use replies::{NodeRefused, Refusal, StoreRefused, When};
 use shard_log::Note;
 use shard_tables::StoreRefusal;
 use tao_base::{Entry, OutOfMemory};
@@ -35,37 +36,31 @@ pub struct Ran {
     pub wrote: Option<Entry>,
 }
 
-/// Why the first job of a shard was not run. It is open as before, and at most merged.
-#[derive(Clone, Copy, PartialEq, Eq)]
-pub enum RepairFailed {
-    /// The shard on which the job's records lie isn't configured.
-    NoServer,
-    /// A keeper or the link failed, the other shard's log was full, or there was no memory.
-    Refused(RepairRefusal),
-}
-
-impl From<RepairRefusal> for RepairFailed {
-    ghost use Rattle.std.specs.Prelude.{◌≡◌};
-    ghost use Rattle.core_repairs.specs.declared.repairs.RepairFailed.TheVariants.{Refused};
-
-    ghost from_gives = { λ refusal failed. failed ≡ Refused refusal };
-
-    fn from(refusal: RepairRefusal) -> RepairFailed {
-        RepairFailed::Refused(refusal)
+/// How it is told why a job was not run, where the keepers and the link have counted so many faults.
+fn refused_for(refusal: RepairRefusal, keeper_faults: u64, link_faults: u64) -> Refusal
+    ensures { result ≡ refused_for keeper_faults link_faults refusal }
+{
+    match refusal {
+        RepairRefusal::KeeperFault => Refusal::Store(StoreRefused::KeeperFault {
+            count: keeper_faults,
+        }),
+        RepairRefusal::LinkFault => link_fault(link_faults, When::Before),
+        RepairRefusal::LogFull { length } => Refusal::Store(StoreRefused::LogFull { length }),
+        RepairRefusal::OutOfMemory => Refusal::Memory { position: 0 },
     }
 }
 
 /// A note of a shard's log, taken before a repair writes there, for those who are to be told of it.
-fn note_before(fleet: &mut Fleet, config: &Config, shard: u16) -> Result<Note, RepairFailed>
+fn note_before(fleet: &mut Fleet, config: &Config, shard: u16) -> Result<Note, Refusal>
     requires stores { AreStores config.now (store_count config.now) fleet.old.stores }
     requires here { shard < config.now.shards }
     ensures note { IfOk result (λ note. note ≡ as_note (pens_of fleet.old.stores shard)) }
-    ensures refused { IfErr result (λ failed. failed ≡ RepairFailed.Refused RepairRefusal.OutOfMemory) }
+    ensures refused { IfErr result (λ refusal. refusal ≡ Refusal.Memory 0) }
     ensures same { fleet.new ≡ fleet.old }
 {
     match fleet.note(config, shard) {
         Ok(note) => Ok(note),
-        Err(OutOfMemory) => Err(RepairFailed::Refused(RepairRefusal::OutOfMemory)),
+        Err(OutOfMemory) => Err(Refusal::Memory { position: 0 }),
     }
 }
 
@@ -94,12 +89,12 @@ fn notify_of_repair(
     nodes.notify_besides(config, shard, entry, &mut note);
 }
 
-/// Why a job was not run which its store refused to give, or to end.
-fn failed_for(refusal: StoreRefusal) -> RepairFailed
+/// Why a job was not run which its store refused to end.
+fn failed_for(refusal: StoreRefusal) -> RepairRefusal
     requires { IsOfReads refusal }
     ensures { FailsAs refusal result }
 {
-    RepairFailed::Refused(passed_on(refusal))
+    passed_on(refusal)
 }
 
 /// The first open job of a shard, where one is open.
@@ -108,7 +103,7 @@ fn find_job<K: Keeper>(
     config: &Config,
     keepers: &mut K,
     shard: u16,
-) -> Result<Option<Job>, RepairFailed>
+) -> Result<Option<Job>, Refusal>
     requires consistent { IsConsistent K.TELLS config.now (K.state keepers.old).told fleet.old }
     requires here { shard < config.now.shards }
     ensures finds { FindsFirst K.TELLS config.now shard result (K.state keepers.old) (K.state keepers.new) }
@@ -120,7 +115,7 @@ fn find_job<K: Keeper>(
 {
     match fleet.first_job(config, keepers, shard) {
         Ok(found) => Ok(found),
-        Err(refusal) => Err(failed_for(refusal)),
+        Err(refusal) => Err(refused_as(refusal, keepers.faults())),
     }
 }
 
@@ -132,7 +127,7 @@ fn merge_and_end<K: Keeper, L: Link>(
     link: &mut L,
     shard: u16,
     job: &Job,
-) -> Result<Option<Entry>, RepairFailed>
+) -> Result<Option<Entry>, RepairRefusal>
     requires ready { CanPost K.TELLS config.now (world nodes.old (K.state keepers.old) (L.shown link.old)) }
     requires here { shard < config.now.shards }
     requires there { far_shard job.now < config.now.shards }
@@ -165,16 +160,17 @@ fn merge_and_end<K: Keeper, L: Link>(
 /// prefers, where it is up. The note of the log that their messages carry was taken before the merge, so that a message is lost only as one of a write is.
 /// No leader takes part.
 ///
-/// Whatever fails leaves the job open, and at most merged, and nobody is told; without memory for that note nothing is done. `Refused` tells `LinkFault`
+/// Whatever fails leaves the job open, and at most merged, and nobody is told; without memory for that note nothing is done. `LinkFault` comes
 /// only where the link's count of faults rose, `KeeperFault` only where the keepers' did, and `LogFull` where the other shard's log has no room for the
-/// entry; `NoServer` comes where that shard isn't configured. Two carries, two calls of the keeper and what a merge costs.
+/// entry; `NoServer` comes where that shard isn't configured, with the region of the job's own master. Two carries, two calls of the keeper and what a
+/// merge costs.
 pub fn repair_first<K: Keeper, L: Link>(
     nodes: &mut Nodes,
     config: &Config,
     keepers: &mut K,
     link: &mut L,
     shard: u16,
-) -> Result<Option<Ran>, RepairFailed>
+) -> Result<Option<Ran>, Refusal>
     requires ready { CanPost K.TELLS config.now (world nodes.old (K.state keepers.old) (L.shown link.old)) }
     requires here { shard < config.now.shards }
     ensures repairs { RepairsFirst K.TELLS config.now shard result
@@ -186,11 +182,19 @@ pub fn repair_first<K: Keeper, L: Link>(
     let Some(job) = found else { return Ok(None) };
     let far = far_shard(&job);
     if far >= config.shards {
-        return Err(RepairFailed::NoServer);
+        let region = nodes.topology.master(shard);
+        return Err(Refusal::Node(NodeRefused::NoServer { region }));
     }
     masters_are_regions(config);
     let note = note_before(&mut nodes.fleet, config, far)?;
-    let wrote = merge_and_end(nodes, config, keepers, link, shard, &job)?;
+    let wrote = match merge_and_end(nodes, config, keepers, link, shard, &job) {
+        Ok(wrote) => wrote,
+        Err(refusal) => {
+            let keeper_faults = keepers.faults();
+            let link_faults = link.faults();
+            return Err(refused_for(refusal, keeper_faults, link_faults));
+        }
+    };
     notify_of_repair(nodes, config, far, &wrote, note);
     Ok(Some(Ran { job, wrote }))
 }

@@ -1,32 +1,17 @@
 //! A settle's jobs: all that are open, shard by shard, each run as a repair runs one.
 ghost use Rattle.std.specs.Prelude.{◌≡◌, ◌<◌};
-ghost use Rattle.core_repairs.specs.Repairs.{RunsJobs, RunsShard, stop_of};
+ghost use Rattle.core_repairs.specs.Repairs.{RunsJobs, RunsShard};
 ghost use Rattle.core_steps.specs.Posting.{CanPost, PostsOn};
 ghost use Rattle.core_steps.specs.World.{world};
 
-use crate::repairs::{RepairFailed, repair_first};
+use crate::repairs::repair_first;
+use crate::stops::stop_of;
 use core_nodes::SettleStop;
 use core_steps::Nodes;
-use edge_repair::RepairRefusal;
-use replies::UnsettledWhy;
 use shard_tables::inverses_match;
 use tao_keeper::Keeper;
 use tao_link::Link;
 use topology::Config;
-
-/// What a settle stops with at a shard whose first job was not run.
-fn stop_of(shard: u16, failed: RepairFailed) -> SettleStop
-    ensures { result ≡ stop_of shard failed }
-{
-    let why = match failed {
-        RepairFailed::NoServer => return SettleStop::NoServer { shard },
-        RepairFailed::Refused(RepairRefusal::OutOfMemory) => return SettleStop::OutOfMemory,
-        RepairFailed::Refused(RepairRefusal::KeeperFault) => UnsettledWhy::KeeperFault,
-        RepairFailed::Refused(RepairRefusal::LinkFault) => UnsettledWhy::LinkFault,
-        RepairFailed::Refused(RepairRefusal::LogFull { .. }) => UnsettledWhy::LogFull,
-    };
-    SettleStop::Unsettled { shard, why }
-}
 
 /// Runs the open jobs of a shard, in order of position.
 fn run_shard<K: Keeper, L: Link>(
@@ -49,7 +34,11 @@ fn run_shard<K: Keeper, L: Link>(
     loop {
         let found = match repair_first(nodes, config, keepers, link, shard) {
             Ok(found) => found,
-            Err(failed) => return Err(stop_of(shard, failed)),
+            Err(refusal) => {
+                let stop = stop_of(shard, &refusal);
+                drop(refusal);
+                return Err(stop);
+            }
         };
         let Some(ran) = found else { return Ok(()) };
         let position = ran.job.position;

@@ -2,32 +2,19 @@
 ghost use Rattle.std.specs.Prelude.{◌≡◌, ◌<◌, ◌+◌, length};
 ghost use Rattle.core_model.specs.Stores.{IsConfiguredStore, region_store};
 ghost use Rattle.core_nodes.specs.Opening.{IsSlaveStore};
-ghost use Rattle.core_repairs.specs.Streams.{IsOfNextStep, RunsStreams, StopsAsRefused, StreamsFrom, StreamsOnce, goes_further};
+ghost use Rattle.core_repairs.specs.Streams.{RunsStreams, StreamsFrom, StreamsOnce, goes_further};
 ghost use Rattle.core_steps.specs.Posting.{CanPost, PostsOn};
 ghost use Rattle.core_steps.specs.World.{world};
 
+use crate::stops::stop_of;
 use core_model::master_of;
 use core_nodes::SettleStop;
 use core_steps::{AskedStream, Nodes};
-use replies::{Refusal, StoreRefused, StreamVerdict, Streamed, UnsettledWhy};
+use replies::{StreamVerdict, Streamed};
 use tao_base::StoreName;
 use tao_keeper::Keeper;
 use tao_link::Link;
 use topology::Config;
-
-/// What a settle stops with where a step into a store of the shard is refused.
-fn stop_for(shard: u16, refusal: &Refusal) -> SettleStop
-    requires { IsOfNextStep refusal.now }
-    ensures { StopsAsRefused shard refusal.now result }
-{
-    let why = match refusal {
-        Refusal::Store(StoreRefused::KeeperFault { .. }) => UnsettledWhy::KeeperFault,
-        Refusal::Store(StoreRefused::LinkFault { .. }) => UnsettledWhy::LinkFault,
-        Refusal::Memory { .. } => return SettleStop::OutOfMemory,
-        _ => unreachable!(),
-    };
-    SettleStop::Unsettled { shard, why }
-}
 
 /// A step of the stream into a slave's store: the entry that the store takes next.
 fn stream_once<K: Keeper, L: Link>(
@@ -49,7 +36,7 @@ fn stream_once<K: Keeper, L: Link>(
     match nodes.stream_over(config, keepers, link, asked) {
         Ok(streamed) => Ok(streamed),
         Err(refusal) => {
-            let stop = stop_for(at.shard, &refusal);
+            let stop = stop_of(at.shard, &refusal);
             drop(refusal);
             Err(stop)
         }

@@ -12,11 +12,10 @@ use Rattle.core_nodes.specs.declared.settling.SettleStop.{SettleStop}
 use Rattle.core_nodes.specs.declared.settling.SettleStop.TheVariants as stop
 use Rattle.core_plans.specs.HeldReads.{at_bound}
 use Rattle.core_plans.specs.declared.held.HeldPlan.TheVariants as of
-use Rattle.core_repairs.specs.Repairs.{FailsToMerge, FailureHasCause, IsNotRepaired, RepairsFirst, stop_of}
-use Rattle.core_repairs.specs.Streams.{StopsAsRefused, StreamStopHasCause}
+use Rattle.core_repairs.specs.Repairs.{FailsToMerge, FailureHasCause, IsNotRepaired, RepairsFirst}
+use Rattle.core_repairs.specs.Stops.{StopsAsRefused}
+use Rattle.core_repairs.specs.Streams.{StreamStopHasCause}
 use Rattle.core_repairs.specs.declared.repairs.Ran.{Ran}
-use Rattle.core_repairs.specs.declared.repairs.RepairFailed.{RepairFailed}
-use Rattle.core_repairs.specs.declared.repairs.RepairFailed.TheVariants as repair
 use Rattle.core_steps.specs.Replies.{refilled_as}
 use Rattle.core_steps.specs.ReadSteps.{AskFails}
 use Rattle.core_steps.specs.Streams.{FailsToTake, RefusesStream, StreamsOver}
@@ -29,10 +28,10 @@ use Rattle.node_name.specs.declared.NodeName.{NodeName}
 use Rattle.read_plan.specs.Readings.{new_reading}
 use Rattle.replies.specs.declared.calls.CallReply.TheVariants as called
 use Rattle.replies.specs.declared.nodes.Streamed.{Streamed}
-use Rattle.replies.specs.declared.refusals.NodeRefused.TheVariants.{IsMaster, NoEntry, NoMessage, NoRefill}
+use Rattle.replies.specs.declared.refusals.NodeRefused.TheVariants.{IsMaster, NoEntry, NoMessage, NoRefill, NoServer}
 use Rattle.replies.specs.declared.refusals.Refusal.{Refusal}
 use Rattle.replies.specs.declared.refusals.Refusal.TheVariants.{Memory, Node, Store}
-use Rattle.replies.specs.declared.refusals.StoreRefused.TheVariants.{KeeperFault, LinkFault}
+use Rattle.replies.specs.declared.refusals.StoreRefused.TheVariants.{KeeperFault, LinkFault, LogFull}
 use Rattle.replies.specs.declared.refusals.UnsettledWhy.{UnsettledWhy}
 use Rattle.replies.specs.declared.refusals.UnsettledWhy.TheVariants as why
 use Rattle.replies.specs.declared.reply.Reply.{Reply}
@@ -60,7 +59,6 @@ use Rattle.tao_core.specs.StoreReplies.{AnswersStore}
 use Rattle.tao_core.specs.Streams.{AnswersStream, asked_stream, streamed_as}
 use Rattle.tao_core.specs.Trims.{AnswersTrim}
 use Rattle.tao_keeper.specs.KeeperState.{KeeperState, KeepsTables}
-use Rattle.topology.specs.Choices.{master_region}
 use Rattle.topology.specs.Config.{Settings}
 use Rattle.topology.specs.States.{is_up}
 use Rattle.headline_kept.specs.Causes.{FindsFull, HasCause, HasNoRefills, OwesNowhere, StopCause}
@@ -290,9 +288,6 @@ module _ (tells : Bool) (old : Moment) (request : Request) (new : Moment) where
     abbrev repairs : Checked
     repairs = asked.Store (store.Repair shard)
 
-    abbrev told_by : Result (Option Ran) RepairFailed → Reply
-    told_by = repaired_as (master_region old.core.states shard) new.keepers.faults new.link.faults
-
     -- what a repair is refused as
     as_told : (refusal own : Refusal) → Refused refusal ≡ Refused own → RefusesAs tells old request repairs own new
         → RefusesAs tells old request repairs refusal new
@@ -300,27 +295,36 @@ module _ (tells : Bool) (old : Moment) (request : Request) (new : Moment) where
         let same : own ≡ refusal = cc in
         subst (λ r. RefusesAs tells old request repairs r new) same said
 
-    repair_by : (outcome : Result (Option Ran) RepairFailed) (refusal : Refusal) → Refused refusal ≡ told_by outcome
-        → RepairsFirst tells set shard outcome (world_of old) (world_of new) → RefusesAs tells old request repairs refusal new
-    repair_by (Ok None) refusal is h = absurd (cc)
-    repair_by (Ok (Some ran)) refusal is h = absurd (cc)
-    repair_by (Err repair.NoServer) refusal is h = as_told refusal _ is (record {
-      cause = (repairs, asks, (refl, record { job = h.job; first = h.finds.first; nowhere = h.nowhere }));
-      same = λ small. h.asks.nodes.tables;
-    })
-    repair_by (Err (repair.Refused why_not.KeeperFault)) refusal is h = as_told refusal _ is (record {
-      cause = (repairs, asks, (refl, h.0));
+    repair_fails : (refusal : Refusal) → IsNotRepaired tells set shard refusal (world_of old) (world_of new)
+        → RefusesAs tells old request repairs refusal new
+    repair_fails (Node (NoServer region)) h = record {
+      cause = (repairs, asks, (h.0, record { job = h.1.job; first = h.1.finds.first; nowhere = h.1.nowhere }));
+      same = λ small. h.1.asks.nodes.tables;
+    }
+    repair_fails (Store (KeeperFault count)) h = record { cause = (repairs, asks, (h.0, h.1)); same = λ small. absurd (cc) }
+    repair_fails (Store (LinkFault count when)) h = record {
+      cause = (
+        repairs,
+        asks,
+        (
+          h.0,
+          link_fails tells set shard (world_of old) (world_of new) h.2,
+          subst (StandsWhen tells set new.keepers.told None) (sym h.1) tt,
+        ),
+      );
       same = λ small. absurd (cc);
-    })
-    repair_by (Err (repair.Refused why_not.LinkFault)) refusal is h = as_told refusal _ is (record {
-      cause = (repairs, asks, (refl, link_fails tells set shard (world_of old) (world_of new) h, tt));
-      same = λ small. absurd (cc);
-    })
-    repair_by (Err (repair.Refused (why_not.LogFull count))) refusal is h = as_told refusal _ is (record {
+    }
+    repair_fails (Store (LogFull count)) h = record {
       cause = (repairs, asks, finds_full tells set shard count (world_of old) (world_of new) h);
       same = λ small told at. h.merges.1 told at ∙ h.finds.tables told at;
-    })
-    repair_by (Err (repair.Refused why_not.OutOfMemory)) refusal is h = as_told refusal _ is (record { cause = tt; same = λ small. absurd (cc) })
+    }
+    repair_fails (Memory position) h = record { cause = subst (λ n. Because (Memory n)) (sym h.0) tt; same = λ small. absurd (cc) }
+    repair_fails refusal h = absurd h
+
+    repair_by : (outcome : Result (Option Ran) Refusal) (refusal : Refusal) → Refused refusal ≡ repaired_as outcome
+        → RepairsFirst tells set shard outcome (world_of old) (world_of new) → RefusesAs tells old request repairs refusal new
+    repair_by (Ok found) refusal is h = absurd (cc)
+    repair_by (Err own) refusal is h = as_told refusal own is (repair_fails own h)
 
     repair_line : (refusal : Refusal) → AnswersRepair tells shard old (Refused refusal) new → RefusesAs tells old request repairs refusal new
     repair_line refusal h = repair_by h.outcome refusal h.reply_is h.repairs
@@ -333,31 +337,34 @@ module _ (tells : Bool) (old : Moment) (request : Request) (new : Moment) where
     Stopped shard told = (shard < set.shards) × StopCause tells shard told old new
 
     -- it stopped at a job
-    run_stops : (failed : RepairFailed) (at shard : ℕ) (told : UnsettledWhy) (between : World) → at < set.shards
-        → stop.Unsettled shard told ≡ stop_of at failed → IsNotRepaired tells set at failed between (world_of new)
-        → FailureHasCause failed (world_of old) (world_of new) → Stopped shard told
-    run_stops repair.NoServer at shard told between here is h cause = absurd (cc)
-    run_stops (repair.Refused why_not.KeeperFault) at shard told between here is h cause =
+    run_stops : (refusal : Refusal) (at shard : ℕ) (told : UnsettledWhy) (between : World) → at < set.shards
+        → StopsAsRefused at refusal (stop.Unsettled shard told) → IsNotRepaired tells set at refusal between (world_of new)
+        → FailureHasCause refusal (world_of old) (world_of new) → Stopped shard told
+    run_stops (Node (NoServer region)) at shard told between here is h cause = absurd (cc)
+    run_stops (Store (KeeperFault count)) at shard told between here is h cause =
         let same : shard ≡ at = cc in
         let why_is : told ≡ why.KeeperFault = cc in
         (subst (λ n. n < set.shards) (sym same) here, subst (λ w. StopCause tells shard w old new) (sym why_is) cause)
-    run_stops (repair.Refused why_not.LinkFault) at shard told between here is h cause =
+    run_stops (Store (LinkFault count when)) at shard told between here is h cause =
         let same : shard ≡ at = cc in
         let why_is : told ≡ why.LinkFault = cc in
         (subst (λ n. n < set.shards) (sym same) here, subst (λ w. StopCause tells shard w old new) (sym why_is) cause)
-    run_stops (repair.Refused (why_not.LogFull count)) at shard told between here is h cause =
+    run_stops (Store (LogFull count)) at shard told between here is h cause =
         let same : shard ≡ at = cc in
         let why_is : told ≡ why.LogFull = cc in (
           subst (λ n. n < set.shards) (sym same) here,
           subst (λ w. StopCause tells shard w old new) (sym why_is)
               (λ so. (count, subst (λ n. FindsFull set new.keepers n count) (sym same) (finds_full tells set at count between (world_of new) h so))),
         )
-    run_stops (repair.Refused why_not.OutOfMemory) at shard told between here is h cause = absurd (cc)
+    run_stops (Memory position) at shard told between here is h cause = absurd (cc)
+    run_stops refusal at shard told between here is h cause = absurd h
 
     -- or at a stream
     stream_shard : (refusal : Refusal) (at shard : ℕ) (told : UnsettledWhy) → StopsAsRefused at refusal (stop.Unsettled shard told) → shard ≡ at
     stream_shard (Store (KeeperFault count)) at shard told is = cc
     stream_shard (Store (LinkFault count when)) at shard told is = cc
+    stream_shard (Store (LogFull count)) at shard told is = cc
+    stream_shard (Node (NoServer region)) at shard told is = absurd (cc)
     stream_shard (Memory position) at shard told is = absurd (cc)
     stream_shard refusal at shard told is = absurd is
 
@@ -387,7 +394,7 @@ module _ (tells : Bool) (old : Moment) (request : Request) (new : Moment) where
     node_stops shard why.LogFull ran streamed jobs streams is = absurd is
 
     unsettled : (shard : ℕ) (told : UnsettledWhy) → IsUnsettled tells (stop.Unsettled shard told) old new → Stopped shard told
-    unsettled shard told (inl h) = run_stops h.stops.failed h.stops.shard shard told h.stops.between h.stops.here h.stops.given_is h.stops.stops h.stops.cause
+    unsettled shard told (inl h) = run_stops h.stops.refusal h.stops.shard shard told h.stops.between h.stops.here h.stops.given_is h.stops.stops h.stops.cause
     unsettled shard told (inr (inl h)) = (
       subst (λ n. n < set.shards) (sym (stream_shard h.stops.refusal h.stops.at.shard shard told h.stops.given_is)) h.stops.slave.here.shard,
       stream_cause shard told h.ran h.jobs h.stops.cause,
@@ -396,18 +403,19 @@ module _ (tells : Bool) (old : Moment) (request : Request) (new : Moment) where
     unsettled shard told (inr (inr (inr h))) = node_stops shard told h.ran h.streamed h.jobs h.streams h.stops
 
     -- a job has no other end
-    run_nowhere : (failed : RepairFailed) (at shard : ℕ) (between : World) → stop.NoServer shard ≡ stop_of at failed
-        → IsNotRepaired tells set at failed between (world_of new) → OwesNowhere tells set new.keepers.told shard
-    run_nowhere repair.NoServer at shard between is h =
+    run_nowhere : (refusal : Refusal) (at shard : ℕ) (between : World) → StopsAsRefused at refusal (stop.NoServer shard)
+        → IsNotRepaired tells set at refusal between (world_of new) → OwesNowhere tells set new.keepers.told shard
+    run_nowhere (Node (NoServer region)) at shard between is h =
         let same : shard ≡ at = cc in
-        subst (OwesNowhere tells set new.keepers.told) (sym same) (record { job = h.job; first = h.finds.first; nowhere = h.nowhere })
-    run_nowhere (repair.Refused why_not.KeeperFault) at shard between is h = absurd (cc)
-    run_nowhere (repair.Refused why_not.LinkFault) at shard between is h = absurd (cc)
-    run_nowhere (repair.Refused (why_not.LogFull count)) at shard between is h = absurd (cc)
-    run_nowhere (repair.Refused why_not.OutOfMemory) at shard between is h = absurd (cc)
+        subst (OwesNowhere tells set new.keepers.told) (sym same) (record { job = h.1.job; first = h.1.finds.first; nowhere = h.1.nowhere })
+    run_nowhere (Store (KeeperFault count)) at shard between is h = absurd (cc)
+    run_nowhere (Store (LinkFault count when)) at shard between is h = absurd (cc)
+    run_nowhere (Store (LogFull count)) at shard between is h = absurd (cc)
+    run_nowhere (Memory position) at shard between is h = absurd (cc)
+    run_nowhere refusal at shard between is h = absurd h
 
     nowhere : (shard : ℕ) → IsUnsettled tells (stop.NoServer shard) old new → OwesNowhere tells set new.keepers.told shard
-    nowhere shard (inl h) = run_nowhere h.stops.failed h.stops.shard shard h.stops.between h.stops.given_is h.stops.stops
+    nowhere shard (inl h) = run_nowhere h.stops.refusal h.stops.shard shard h.stops.between h.stops.given_is h.stops.stops
     nowhere shard (inr (inl h)) = absurd h.stops.cause
     nowhere shard (inr (inr (inl h))) = absurd h.stops
     nowhere shard (inr (inr (inr h))) = absurd h.stops

@@ -13,13 +13,11 @@ use Rattle.core_nodes.specs.Settling.{lies_behind}
 use Rattle.core_nodes.specs.Trimming.{behind_of, is_behind, names_behind}
 use Rattle.core_repairs.specs.Repairs.{IsNotRepaired, RepairsFirst, StopsRepair}
 use Rattle.core_repairs.specs.declared.repairs.Ran.{Ran}
-use Rattle.core_repairs.specs.declared.repairs.RepairFailed.{RepairFailed}
-use Rattle.core_repairs.specs.declared.repairs.RepairFailed.TheVariants as repair
 use Rattle.core_steps.specs.Streams.{ProcessesEntry, RefusesStream, StreamsOver, TakesAs, region_leader}
 use Rattle.core_steps.specs.World.{World}
 use Rattle.core_trims.specs.Trims.{ResetEach}
 use Rattle.edge_repair.specs.declared.refusal.RepairRefusal.{RepairRefusal}
-use Rattle.edge_repair.specs.declared.refusal.RepairRefusal.TheVariants.{KeeperFault, LinkFault, LogFull, OutOfMemory}
+use Rattle.edge_repair.specs.declared.refusal.RepairRefusal.TheVariants.{KeeperFault, OutOfMemory}
 use Rattle.follower_cache.specs.Seen.{FollowerState}
 use Rattle.headline_kept.proofs.Caches.{EachCache, cache_empties, caches_then, each_so, leader_changes, none_changes, same_fleet}
 use Rattle.headline_kept.proofs.ItemOps.{delivered_keeps}
@@ -30,7 +28,7 @@ use Rattle.node_name.specs.declared.NodeName.{NodeName}
 use Rattle.replies.specs.declared.nodes.StreamVerdict.{StreamVerdict}
 use Rattle.replies.specs.declared.nodes.StreamVerdict.TheVariants as verdict
 use Rattle.replies.specs.declared.nodes.Streamed.{Streamed}
-use Rattle.replies.specs.declared.refusals.NodeRefused.TheVariants.{NoEntry}
+use Rattle.replies.specs.declared.refusals.NodeRefused.TheVariants.{NoEntry, NoServer}
 use Rattle.replies.specs.declared.refusals.Refusal.{Refusal}
 use Rattle.replies.specs.declared.refusals.Refusal.TheVariants.{Memory, Node as OfNode, Store as OfStore}
 use Rattle.replies.specs.declared.refusals.StoreRefused.TheVariants as refused
@@ -183,17 +181,18 @@ module _ (tells : Bool) (s : Settings) (shard : ℕ) (old new : World) where
   stops_rest refusal (inr (inl merge)) = rest_stores old new merge.rest.caches.fleet
   stops_rest refusal (inr (inr ends)) = rest_stores old new ends.rest.caches.fleet
 
-  failed_rest : (failed : RepairFailed) → IsNotRepaired tells s shard failed old new → NodesRest old new
-  failed_rest repair.NoServer h = rest_same old new h.asks.nodes.fleet
-  failed_rest (repair.Refused KeeperFault) h = stops_rest KeeperFault h.1
-  failed_rest (repair.Refused LinkFault) h = rest_stores old new h.rest.caches.fleet
-  failed_rest (repair.Refused (LogFull count)) h = rest_stores old new h.rest.caches.fleet
-  failed_rest (repair.Refused OutOfMemory) h = stops_rest OutOfMemory h
+  failed_rest : (r : Refusal) → IsNotRepaired tells s shard r old new → NodesRest old new
+  failed_rest (OfNode (NoServer region)) h = rest_same old new h.1.asks.nodes.fleet
+  failed_rest (OfStore (refused.KeeperFault count)) h = stops_rest KeeperFault h.2
+  failed_rest (OfStore (refused.LinkFault count when)) h = rest_stores old new h.2.rest.caches.fleet
+  failed_rest (OfStore (refused.LogFull count)) h = rest_stores old new h.rest.caches.fleet
+  failed_rest (Memory position) h = stops_rest OutOfMemory h.1
+  failed_rest r h = absurd h
 
-  repair_rest : (outcome : Result (Option Ran) RepairFailed) → RepairsFirst tells s shard outcome old new → NodesRest old new
+  repair_rest : (outcome : Result (Option Ran) Refusal) → RepairsFirst tells s shard outcome old new → NodesRest old new
   repair_rest (Ok None) h = rest_same old new h.asks.nodes.fleet
   repair_rest (Ok (Some ran)) h = rest_stores old new h.caches.fleet
-  repair_rest (Err failed) h = failed_rest failed h
+  repair_rest (Err r) h = failed_rest r h
 
 pub repair_leaves : (tells : Bool) (shard : ℕ) (old new : Moment) (reply : Reply) → AnswersRepair tells shard old reply new
     → LeavesAllItems tells (asks.Store (store.Repair shard)) old new

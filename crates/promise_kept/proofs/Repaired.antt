@@ -7,14 +7,16 @@ use Rattle.core_model.specs.Jobs.{EndsOwed, IsFirstJobOf, MergesOwed, OwesShardJ
 use Rattle.core_model.specs.Stores.{masters_of, stores_in}
 use Rattle.core_repairs.specs.Repairs.{FailsToEnd, FailsToMerge, FindsNoJob, IsNotRepaired, IsRepaired, OnlyAsks, RepairsFirst, StopsRepair}
 use Rattle.core_repairs.specs.declared.repairs.Ran.{Ran}
-use Rattle.core_repairs.specs.declared.repairs.RepairFailed.{RepairFailed}
-use Rattle.core_repairs.specs.declared.repairs.RepairFailed.TheVariants.{NoServer, Refused}
 use Rattle.core_steps.specs.World.{World}
 use Rattle.edge_repair.specs.declared.refusal.RepairRefusal.{RepairRefusal}
 use Rattle.edge_repair.specs.declared.refusal.RepairRefusal.TheVariants.{KeeperFault, LinkFault, LogFull, OutOfMemory}
 use Rattle.graph_model.specs.Log.{entry_at}
 use Rattle.master_tables.proofs.Calls.{tables_are_stores}
 use Rattle.plain_promise.specs.Promise.{IsRepairedUpTo, RepairsAlone}
+use Rattle.replies.specs.declared.refusals.NodeRefused.TheVariants.{NoServer}
+use Rattle.replies.specs.declared.refusals.Refusal.{Refusal}
+use Rattle.replies.specs.declared.refusals.Refusal.TheVariants.{Memory, Node as OfNode, Store as OfStore}
+use Rattle.replies.specs.declared.refusals.StoreRefused.TheVariants as refused
 use Rattle.tao_keeper.specs.Table.{Tables}
 use Rattle.tao_keeper.specs.declared.jobs.Job.{Job}
 use Rattle.tao_schema.specs.Schema.{types_of}
@@ -59,10 +61,10 @@ merges_first s j old new first merges =
     )
 
 -- what the reply says of the jobs
-abbrev pub SaysJobs : ℕ → Stores → Result (Option Ran) RepairFailed → Type 0
+abbrev pub SaysJobs : ℕ → Stores → Result (Option Ran) Refusal → Type 0
 SaysJobs shard stores (Ok None) = IsRepairedUpTo shard 0 stores
 SaysJobs shard stores (Ok (Some ran)) = IsRepairedUpTo shard ran.job.position stores
-SaysJobs shard stores (Err failed) = ⊤
+SaysJobs shard stores (Err r) = ⊤
 
 -- ---- whatever comes of it
 
@@ -115,12 +117,13 @@ module _ (s : Settings) (shard : ℕ) (old new : World) where
   stopped refusal (inr (inl fails)) = not_merged refusal fails
   stopped refusal (inr (inr fails)) = not_ended fails
 
-  not_repaired : (failed : RepairFailed) → IsNotRepaired true s shard failed old new → Done
-  not_repaired NoServer is = asked_alone is.asks
-  not_repaired (Refused KeeperFault) is = stopped KeeperFault is.1
-  not_repaired (Refused LinkFault) is = not_merged LinkFault is
-  not_repaired (Refused (LogFull count)) is = not_merged (LogFull count) is
-  not_repaired (Refused OutOfMemory) is = stopped OutOfMemory is
+  not_repaired : (r : Refusal) → IsNotRepaired true s shard r old new → Done
+  not_repaired (OfNode (NoServer region)) is = asked_alone is.1.asks
+  not_repaired (OfStore (refused.KeeperFault count)) is = stopped KeeperFault is.2
+  not_repaired (OfStore (refused.LinkFault count when)) is = not_merged LinkFault is.2
+  not_repaired (OfStore (refused.LogFull count)) is = not_merged (LogFull count) is
+  not_repaired (Memory position) is = stopped OutOfMemory is.1
+  not_repaired r is = absurd is
 
   -- ---- a job that was run
 
@@ -183,13 +186,13 @@ module _ (s : Settings) (shard : ℕ) (old new : World) where
 
   -- ---- both
 
-  pub repair_merges : (outcome : Result (Option Ran) RepairFailed) → RepairsFirst true s shard outcome old new → Done
+  pub repair_merges : (outcome : Result (Option Ran) Refusal) → RepairsFirst true s shard outcome old new → Done
   repair_merges (Ok None) is = asked_alone is.asks
   repair_merges (Ok (Some ran)) is = repaired ran is
-  repair_merges (Err failed) is = not_repaired failed is
+  repair_merges (Err r) is = not_repaired r is
 
-  pub repair_says : (outcome : Result (Option Ran) RepairFailed) → shard < s.shards → RepairsFirst true s shard outcome old new
+  pub repair_says : (outcome : Result (Option Ran) Refusal) → shard < s.shards → RepairsFirst true s shard outcome old new
       → SaysJobs shard (stores_in s new.keepers.told) outcome
   repair_says (Ok None) here is = none_open here is
   repair_says (Ok (Some ran)) here is = up_to ran is ran.job.position refl
-  repair_says (Err failed) here is = tt
+  repair_says (Err r) here is = tt

@@ -4,12 +4,9 @@ use Rattle.std.specs.Prelude.{Option}
 use Rattle.core_model.specs.Stores.{master_of, master_store, region_store, stores_in}
 use Rattle.core_nodes.specs.Streams.{StreamsTo}
 use Rattle.core_repairs.specs.declared.repairs.Ran.{Ran}
-use Rattle.core_repairs.specs.declared.repairs.RepairFailed.{RepairFailed}
-use Rattle.core_repairs.specs.declared.repairs.RepairFailed.TheVariants as repair
 use Rattle.core_steps.specs.Streams.{RefusesStream, StreamsOver}
 use Rattle.core_steps.specs.World.{World}
 use Rattle.core_steps.specs.declared.streaming.AskedStream.{AskedStream}
-use Rattle.edge_repair.specs.declared.refusal.RepairRefusal.TheVariants.{KeeperFault, LinkFault, LogFull, OutOfMemory}
 use Rattle.graph_model.specs.Answers.{answer}
 use Rattle.master_tables.specs.Masters.{each_shard}
 use Rattle.plain_promise.specs.Promise.{IsAuditOf, Plain, RepairsAlone, SaysRightly, settled_after}
@@ -48,7 +45,6 @@ use Rattle.tao_keeper.proofs.Growing.{same_or_other}
 use Rattle.tao_keeper.specs.Table.{Becomes, Stays, Table, Tables, after_cut}
 use Rattle.topology.specs.Config.{Settings}
 use Rattle.tao_schema.specs.Schema.{types_of}
-use Rattle.topology.specs.Choices.{master_region}
 use Rattle.write_model.specs.Machine.{Settles}
 use Rattle.write_model.specs.Merges.{Stores}
 
@@ -67,19 +63,11 @@ module _ (shard : ℕ) (old new : Moment) (plain : Plain) (is : IsPlainOf old pl
       (subst (λ settled. SaysRightly (types_of old.core.settings.schema) plain Asked reply (plain_with plain new settled)) back says) changes (λ plan. refl) (λ session. refl)
       (subst (IsSettledSince new) back (settled_rests old new on plain.settled is.settled))
 
-  repaired_steps : (region keepers link : ℕ) (outcome : Result (Option Ran) RepairFailed) → SaysJobs shard (stores_at new) outcome
-      → StepsPlainly (Some Asked) old plain (repaired_as region keepers link outcome) new
-  repaired_steps region keepers link (Ok None) says = repaired_so (repaired_as region keepers link (Ok None)) says refl
-  repaired_steps region keepers link (Ok (Some ran)) says = repaired_so (repaired_as region keepers link (Ok (Some ran))) says refl
-  repaired_steps region keepers link (Err repair.NoServer) says = repaired_so (repaired_as region keepers link (Err repair.NoServer)) tt refl
-  repaired_steps region keepers link (Err (repair.Refused KeeperFault)) says =
-      repaired_so (repaired_as region keepers link (Err (repair.Refused KeeperFault))) tt refl
-  repaired_steps region keepers link (Err (repair.Refused LinkFault)) says =
-      repaired_so (repaired_as region keepers link (Err (repair.Refused LinkFault))) tt refl
-  repaired_steps region keepers link (Err (repair.Refused (LogFull count))) says =
-      repaired_so (repaired_as region keepers link (Err (repair.Refused (LogFull count)))) tt refl
-  repaired_steps region keepers link (Err (repair.Refused OutOfMemory)) says =
-      repaired_so (repaired_as region keepers link (Err (repair.Refused OutOfMemory))) tt refl
+  repaired_steps : (outcome : Result (Option Ran) Refusal) → SaysJobs shard (stores_at new) outcome
+      → StepsPlainly (Some Asked) old plain (repaired_as outcome) new
+  repaired_steps (Ok None) says = repaired_so (repaired_as (Ok None)) says refl
+  repaired_steps (Ok (Some ran)) says = repaired_so (repaired_as (Ok (Some ran))) says refl
+  repaired_steps (Err refusal) says = repaired_so (Refused refusal) tt refl
 
 repair_line : (shard : ℕ) → KeepsLine (asks.Store (Repair shard))
 repair_line shard old new plain reply is line =
@@ -92,8 +80,8 @@ repair_line shard old new plain reply is line =
     let changes = subst (λ (st : Stores). RepairsAlone (types_of s.schema) plain.stores st.logs) (sym now)
     (subst (λ st. RepairsAlone (types_of s.schema) st (stores_in s new.keepers.told).logs) (sym is.stores) merges) in
     subst (λ r. StepsPlainly (Some (asks.Store (Repair shard))) old plain r new) (sym answers.reply_is)
-    (repaired_steps shard old new plain is on (keeps_calls old new answers.rest) changes (master_region old.core.states shard) new.keepers.faults
-    new.link.faults answers.outcome (subst (λ st. SaysJobs shard st answers.outcome) (sym now) says))
+    (repaired_steps shard old new plain is on (keeps_calls old new answers.rest) changes answers.outcome
+    (subst (λ st. SaysJobs shard st answers.outcome) (sym now) says))
 
 -- ---- settles
 

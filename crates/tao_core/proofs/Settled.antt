@@ -36,13 +36,15 @@ use Rattle.core_steps.specs.declared.nodes.Nodes.{Nodes}
 use Rattle.core_repairs.specs.Repairs.{IsNotRepaired, RepairsFirst, RunsAll, StopsRepair, StopsRun}
 use Rattle.core_repairs.specs.Streams.{StopsStreams, StreamsAll}
 use Rattle.core_repairs.specs.declared.repairs.Ran.{Ran}
-use Rattle.core_repairs.specs.declared.repairs.RepairFailed.{RepairFailed}
-use Rattle.core_repairs.specs.declared.repairs.RepairFailed.TheVariants as repair
 use Rattle.edge_repair.specs.declared.refusal.RepairRefusal.{RepairRefusal}
-use Rattle.edge_repair.specs.declared.refusal.RepairRefusal.TheVariants.{KeeperFault, LinkFault, LogFull, OutOfMemory}
+use Rattle.edge_repair.specs.declared.refusal.RepairRefusal.TheVariants.{KeeperFault, OutOfMemory}
 use Rattle.follower_cache.specs.Seen.{FollowerState}
 use Rattle.graph_model.specs.Told.{WhereTold}
 use Rattle.node_name.specs.declared.NodeName.{NodeName}
+use Rattle.replies.specs.declared.refusals.NodeRefused.TheVariants.{NoServer}
+use Rattle.replies.specs.declared.refusals.Refusal.{Refusal}
+use Rattle.replies.specs.declared.refusals.Refusal.TheVariants.{Memory, Node as OfNode, Store as OfStore}
+use Rattle.replies.specs.declared.refusals.StoreRefused.TheVariants as refused
 use Rattle.replies.specs.declared.refusals.UnsettledWhy.TheVariants as why
 use Rattle.tao_base.specs.EdgeTypes.{InversesMatch}
 use Rattle.tao_keeper.proofs.Growing.{growing_laws}
@@ -110,19 +112,20 @@ module _ (tells : Bool) (s : Settings) (shard : ℕ) (old new : World) where
   stopped_same refusal (inr (inl fails)) = ap (λ (f : Fleet). f.followers) fails.rest.caches.fleet
   stopped_same refusal (inr (inr fails)) = ap (λ (f : Fleet). f.followers) fails.rest.caches.fleet
 
-  not_repaired_same : (failed : RepairFailed) → IsNotRepaired tells s shard failed old new → new.fleet.followers ≡ old.fleet.followers
-  not_repaired_same repair.NoServer is = ap (λ (f : Fleet). f.followers) is.asks.nodes.fleet
-  not_repaired_same (repair.Refused KeeperFault) is = stopped_same KeeperFault is.1
-  not_repaired_same (repair.Refused LinkFault) is = ap (λ (f : Fleet). f.followers) is.rest.caches.fleet
-  not_repaired_same (repair.Refused (LogFull count)) is = ap (λ (f : Fleet). f.followers) is.rest.caches.fleet
-  not_repaired_same (repair.Refused OutOfMemory) is = stopped_same OutOfMemory is
+  not_repaired_same : (r : Refusal) → IsNotRepaired tells s shard r old new → new.fleet.followers ≡ old.fleet.followers
+  not_repaired_same (OfNode (NoServer region)) is = ap (λ (f : Fleet). f.followers) is.1.asks.nodes.fleet
+  not_repaired_same (OfStore (refused.KeeperFault count)) is = stopped_same KeeperFault is.2
+  not_repaired_same (OfStore (refused.LinkFault count when)) is = ap (λ (f : Fleet). f.followers) is.2.rest.caches.fleet
+  not_repaired_same (OfStore (refused.LogFull count)) is = ap (λ (f : Fleet). f.followers) is.rest.caches.fleet
+  not_repaired_same (Memory position) is = stopped_same OutOfMemory is.1
+  not_repaired_same r is = absurd is
 
   -- a repair changes no follower
-  pub repaired_same : (outcome : Result (Option Ran) RepairFailed) → RepairsFirst tells s shard outcome old new
+  pub repaired_same : (outcome : Result (Option Ran) Refusal) → RepairsFirst tells s shard outcome old new
       → new.fleet.followers ≡ old.fleet.followers
   repaired_same (Ok None) is = ap (λ (f : Fleet). f.followers) is.asks.nodes.fleet
   repaired_same (Ok (Some ran)) is = ap (λ (f : Fleet). f.followers) is.caches.fleet
-  repaired_same (Err failed) is = not_repaired_same failed is
+  repaired_same (Err r) is = not_repaired_same r is
 
 -- ---- settles
 

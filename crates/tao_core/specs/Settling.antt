@@ -11,15 +11,13 @@ use Rattle.core_nodes.specs.declared.settling.SettleStop.TheVariants as stop
 use Rattle.core_repairs.specs.Repairs.{RepairsFirst, RunsAll, StopsRun}
 use Rattle.core_repairs.specs.Streams.{StopsStreams, StreamsAll}
 use Rattle.core_repairs.specs.declared.repairs.Ran.{Ran}
-use Rattle.core_repairs.specs.declared.repairs.RepairFailed.{RepairFailed}
-use Rattle.core_repairs.specs.declared.repairs.RepairFailed.TheVariants as repair
-use Rattle.edge_repair.specs.declared.refusal.RepairRefusal.TheVariants.{KeeperFault, LinkFault, LogFull, OutOfMemory}
 use Rattle.graph_model.specs.Told.{WhereTold}
 use Rattle.replies.specs.declared.nodes.NodeReply.TheVariants.{Repaired}
+use Rattle.replies.specs.declared.nodes.Repaired.{Repaired as RepairedJob}
 use Rattle.replies.specs.declared.refusals.NodeRefused.TheVariants.{NoServer}
+use Rattle.replies.specs.declared.refusals.Refusal.{Refusal}
 use Rattle.replies.specs.declared.refusals.Refusal.TheVariants.{Memory, Node as OfNode, Store}
 use Rattle.replies.specs.declared.refusals.StoreRefused.TheVariants as refused
-use Rattle.replies.specs.declared.refusals.When.TheVariants.{Before}
 use Rattle.replies.specs.declared.reply.Reply.{Reply}
 use Rattle.replies.specs.declared.reply.Reply.TheVariants.{Node, Refused, Settled}
 use Rattle.tao_keeper.specs.KeeperState.{IsLater, KeepsTables}
@@ -33,20 +31,20 @@ use Rattle.tao_core.specs.Core.{Moment, outside_at}
 
 -- ---- repairs
 
--- how it is replied what came of a shard's first job, where its master's region is this, and the keepers and the link have counted so many faults
-abbrev pub repaired_as : ℕ → ℕ → ℕ → Result (Option Ran) RepairFailed → Reply
-repaired_as region keeper_faults link_faults (Ok None) = Node (Repaired (record { hops = 0; job = 0; wrote = false }))
-repaired_as region keeper_faults link_faults (Ok (Some ran)) = Node (Repaired (record { hops = 2; job = ran.job.position; wrote = is_some ran.wrote }))
-repaired_as region keeper_faults link_faults (Err repair.NoServer) = Refused (OfNode (NoServer region))
-repaired_as region keeper_faults link_faults (Err (repair.Refused KeeperFault)) = Refused (Store (refused.KeeperFault keeper_faults))
-repaired_as region keeper_faults link_faults (Err (repair.Refused LinkFault)) = Refused (Store (refused.LinkFault link_faults Before))
-repaired_as region keeper_faults link_faults (Err (repair.Refused (LogFull length))) = Refused (Store (refused.LogFull length))
-repaired_as region keeper_faults link_faults (Err (repair.Refused OutOfMemory)) = Refused (Memory 0)
+-- what a repair came to: the job that was run, if one was open
+abbrev pub repaired_of : Option Ran → RepairedJob
+repaired_of None = record { hops = 0; job = 0; wrote = false }
+repaired_of (Some ran) = record { hops = 2; job = ran.job.position; wrote = is_some ran.wrote }
+
+-- how it is replied what came of a shard's first job
+abbrev pub repaired_as : Result (Option Ran) Refusal → Reply
+repaired_as (Ok found) = Node (Repaired (repaired_of found))
+repaired_as (Err refusal) = Refused refusal
 
 -- what the reply to a repair says: what came of the shard's first job. Nothing of the core but its stores and their messages changes
 pub record AnswersRepair (tells : Bool) (shard : ℕ) (old : Moment) (reply : Reply) (new : Moment) : Type 0 where
-  pub outcome : Result (Option Ran) RepairFailed
-  pub reply_is : reply ≡ repaired_as (master_region old.core.states shard) new.keepers.faults new.link.faults outcome
+  pub outcome : Result (Option Ran) Refusal
+  pub reply_is : reply ≡ repaired_as outcome
   pub repairs : RepairsFirst tells old.core.settings shard outcome (world_of old) (world_of new)
   pub link : IsLaterLink old.link new.link
   pub rest : new.core ≡ record old.core { fleet = new.core.fleet; mail = new.core.mail }

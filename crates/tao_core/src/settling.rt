@@ -7,16 +7,15 @@ ghost use Rattle.core_nodes.specs.Beginning.{AreLengths};
 ghost use Rattle.core_nodes.specs.Settling.{StopsLengths, log_lengths};
 ghost use Rattle.graph_model.specs.Told.{WhereTold};
 ghost use Rattle.tao_core.specs.Core.{IsConsistentCore, IsCoreOf, LeavesCore, StaysUsable, moment};
-ghost use Rattle.tao_core.specs.Settling.{AnswersRepair, AnswersSettle, IsUnsettled, SettlesCore, repaired_as, unsettled_as};
+ghost use Rattle.tao_core.specs.Settling.{AnswersRepair, AnswersSettle, IsUnsettled, SettlesCore, repaired_as, repaired_of, unsettled_as};
 ghost use Rattle.tao_keeper.specs.KeeperState.{IsLater, KeepsTables};
 
 use crate::refusals::no_server;
 use crate::serving::Core;
 use core_nodes::{Ends, Fleet, SettleStop, shard_lengths};
-use core_repairs::{Ran, RepairFailed, repair_first, run_jobs, run_streams};
-use core_steps::{link_fault, out_of_memory};
-use edge_repair::RepairRefusal;
-use replies::{Lengths, NodeReply, Refusal, Repaired, Reply, StoreRefused, When};
+use core_repairs::{Ran, repair_first, run_jobs, run_streams};
+use core_steps::out_of_memory;
+use replies::{Lengths, NodeReply, Refusal, Repaired, Reply, StoreRefused};
 use shard_tables::inverses_match;
 use std::alloc::Global;
 use tao_base::OutOfMemory;
@@ -24,37 +23,36 @@ use tao_keeper::Keeper;
 use tao_link::Link;
 use topology::{Config, Topology};
 
-/// How it is replied what came of a shard's first job, where its master's region is this, and the keepers and the link have counted so many faults.
-fn repaired_as(
-    outcome: &Result<Option<Ran>, RepairFailed>,
-    region: u16,
-    keeper_faults: u64,
-    link_faults: u64,
-) -> Reply
-    ensures { result ≡ repaired_as region keeper_faults link_faults outcome.now }
+/// What a repair came to: the job that was run, if one was open.
+fn repaired_of(found: &Option<Ran>) -> Repaired
+    ensures { result ≡ repaired_of found.now }
 {
-    let refusal = match outcome {
-        Ok(None) => return repaired(0, 0, false),
-        Ok(Some(ran)) => return repaired(2, ran.job.position, ran.wrote.is_some()),
-        Err(RepairFailed::NoServer) => return no_server(region),
-        Err(RepairFailed::Refused(refusal)) => *refusal,
-    };
-    match refusal {
-        RepairRefusal::KeeperFault => Reply::Refused(Refusal::Store(StoreRefused::KeeperFault {
-            count: keeper_faults,
-        })),
-        RepairRefusal::LinkFault => Reply::Refused(link_fault(link_faults, When::Before)),
-        RepairRefusal::LogFull { length } => {
-            Reply::Refused(Refusal::Store(StoreRefused::LogFull { length }))
-        }
-        RepairRefusal::OutOfMemory => out_of_memory(),
+    match found {
+        None => Repaired {
+            hops: 0,
+            job: 0,
+            wrote: false,
+        },
+        Some(ran) => Repaired {
+            hops: 2,
+            job: ran.job.position,
+            wrote: ran.wrote.is_some(),
+        },
     }
 }
 
-fn repaired(hops: u64, job: u64, wrote: bool) -> Reply
-    ensures { result ≡ Reply.Node (NodeReply.Repaired (record { hops = hops; job = job; wrote = wrote })) }
+/// How it is replied what came of a shard's first job.
+fn repaired_as(outcome: Result<Option<Ran>, Refusal>) -> Reply
+    ensures { result ≡ repaired_as outcome }
 {
-    Reply::Node(NodeReply::Repaired(Repaired { hops, job, wrote }))
+    match outcome {
+        Ok(found) => {
+            let repaired = repaired_of(&found);
+            drop(found);
+            Reply::Node(NodeReply::Repaired(repaired))
+        }
+        Err(refusal) => Reply::Refused(refusal),
+    }
 }
 
 /// How it is replied that a settle came to no end.
@@ -115,8 +113,7 @@ impl<'c> Core<'c> {
         ensures leaves { LeavesCore K.TELLS (K.state keepers.old) (K.state keepers.new) self.old self.new }
     {
         let outcome = repair_first(&mut self.nodes, self.config, keepers, link, shard);
-        let region = self.nodes.topology.master(shard);
-        repaired_as(&outcome, region, keepers.faults(), link.faults())
+        repaired_as(outcome)
     }
 
     /// Runs all open jobs, shard by shard, each shard's in order of position; moves every stream to its end, region by region, and in each region shard by

@@ -12,4 +12,5 @@ pub returns-in-Err-clause-finds : goal.returns-in-Err-clause-finds
 returns-in-Err-clause-finds g c =
     let state = g.K.Keeper.state in
     refuses_first g.K.Keeper.TELLS c.args.config.now c.args.shard (state c.args.keepers.now) (state c.first_job.new.keepers) c.in-Err.refusal
-    c.failed_for.result c.failed_for.ensures c.first_job.ensures.tables (λ is. c.in-Err.ensures.calls.failed (ap (λ r. Err r) is))
+    c.refused_as.result c.faults.result c.refused_as.ensures c.faults.ensures c.in-Err.ensures.refusals c.first_job.ensures.tables
+    (λ is. c.in-Err.ensures.calls.failed (ap (λ r. Err r) is))

@@ -5,7 +5,7 @@ use Rattle.core_steps.specs.World.{world}
 use Rattle.core_repairs.specs.Repairs.{FindsNoJob, IsRepaired, RepairsFirst}
 use Rattle.core_steps.proofs.PostsLemmas.{can_post_on, posts_none, posts_trans}
 use Rattle.core_repairs.proofs.RunLemmas.{first_leaves, given_again, no_more, none_at_zero, none_left, not_again}
-use Rattle.core_repairs.proofs.RunLemmas.{rest_trans, runs_one, stops_run}
+use Rattle.core_repairs.proofs.RunLemmas.{of_repair, rest_trans, runs_one, stops_run}
 use Rattle.core_repairs.proofs.runs.run_shard.Goals as goal
 
 pub loop-found-init : goal.loop-found-init
@@ -51,6 +51,14 @@ loop-found-preserved g c =
       on = posts_trans tells s start now new was.on c.repair_first.ensures.on;
     }
 
+pub stop_of-stop-requires : goal.stop_of-stop-requires
+stop_of-stop-requires g c =
+    let state = g.K.Keeper.state in
+    let shown = g.L.Link.shown in
+    of_repair g.K.Keeper.TELLS c.args.config.now c.args.shard
+    (world c.loop-found.nodes (state c.loop-found.keepers) (shown c.loop-found.link))
+    (world c.repair_first.new.nodes (state c.repair_first.new.keepers) (shown c.repair_first.new.link)) c.in-Err.refusal c.in-Err.ensures.repairs
+
 pub returns-in-Err-clause-runs : goal.returns-in-Err-clause-runs
 returns-in-Err-clause-runs g c =
     let state = g.K.Keeper.state in
@@ -59,7 +67,7 @@ returns-in-Err-clause-runs g c =
     let new = world c.repair_first.new.nodes (state c.repair_first.new.keepers) (shown c.repair_first.new.link) in
     record {
       on = λ begin so.
-          stops_run g.K.Keeper.TELLS c.args.config.now c.args.shard now new c.in-Err.failed c.stop_of.result c.requires.here c.stop_of.ensures
+          stops_run g.K.Keeper.TELLS c.args.config.now c.args.shard now new c.in-Err.refusal c.stop_of-stop.result c.requires.here c.stop_of-stop.ensures
           c.in-Err.ensures.repairs begin (c.loop-found.invariant.runs.more begin so);
     }
 

@@ -2,8 +2,8 @@ use Rattle.core_steps.specs.World.{world}
 use Rattle.core_repairs.proofs.StreamEnds.{of_next_step, step_followers}
 use Rattle.core_repairs.proofs.streams.stream_once.Goals as goal
 
-pub stop_for-stop-requires : goal.stop_for-stop-requires
-stop_for-stop-requires g c =
+pub stop_of-stop-requires : goal.stop_of-stop-requires
+stop_of-stop-requires g c =
     let state = g.K.Keeper.state in
     let shown = g.L.Link.shown in
     let done = c.stream_over in
@@ -27,4 +27,4 @@ returns-in-Err-clause-followers g c =
     (world done.new.self (state done.new.keepers) (shown done.new.link)) done.result done.ensures.streams
 
 pub returns-in-Err-clause-streams : goal.returns-in-Err-clause-streams
-returns-in-Err-clause-streams g c = record { refusal = c.in-Err.refusal; given_is = c.stop_for-stop.ensures; refuses = c.in-Err.ensures.streams }
+returns-in-Err-clause-streams g c = record { refusal = c.in-Err.refusal; given_is = c.stop_of-stop.ensures; refuses = c.in-Err.ensures.streams }

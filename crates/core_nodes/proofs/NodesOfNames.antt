@@ -1,10 +1,10 @@
 -- The node of a name is such, and is so after it changed.
-use Rattle.std.proofs.Common.{◌≡◌, ◌≢◌, ◌<◌, ℕ, List, Option, None, Some, length, refl, ap, subst, sym, ◌∙◌, inl, inr}
+use Rattle.std.proofs.Common.{◌≡◌, ◌≢◌, ◌<◌, ℕ, zero, suc, List, [], ◌∷◌, Option, None, Some, length, refl, ap, subst, sym, ◌∙◌, inl, inr, arith}
 use Rattle.std.proofs.lemmas.Bool.{cases_order}
 use Rattle.std.proofs.lemmas.Option.{slice_get_within}
 use Rattle.std.specs.Prelude.{IsSomeAnd, slice_get, slice_index_or, slice_set}
 use Rattle.node_name.specs.declared.NodeName.{NodeName}
-use Rattle.core_model.specs.Fleet.{ChangesNode, IsFirstAt, named}
+use Rattle.core_model.specs.Fleet.{ChangesNode, IsFirstAt, IsNodeOfName, named}
 use Rattle.core_model.specs.declared.named.Named.{Named}
 use Rattle.core_model.proofs.NamedNodes.{named_stands}
 use Rattle.core_model.proofs.Places.{get_set, one_some, set_get, some_and}
@@ -60,3 +60,22 @@ is_after Such By name old new change is place node first h =
       | inl e ↦ absurd (same_place By name old new place node change first e.0 e.1)
       | inr e ↦ subst (λ n. Such n.node) e.1 is
     ]
+
+-- and stands first of its name
+get_before : {X : Type 0} (xs : List X) (place other : ℕ) (x : X) → other < place → slice_get (slice_set xs place x) other ≡ slice_get xs other
+get_before [] place other x lt = refl
+get_before (y ∷ ys) zero other x lt = absurd (omega (arith, lt))
+get_before (y ∷ ys) (suc place) zero x lt = refl
+get_before (y ∷ ys) (suc place) (suc other) x lt = get_before ys place other x (omega (arith, lt))
+
+pub node_after : {N : Type 0} (By : N → N → Type 0) (name : NodeName) (old new : List (Named N)) (change : ChangesNode name By old new)
+    → IsNodeOfName name new (Some change.to)
+node_after By name old new change =
+    let to = named name change.to in
+    let here = ap (λ xs. slice_get xs change.place) change.is ∙ set_get old change.place (named name change.from) to change.stands in
+    let first : IsFirstAt name new change.place = record {
+      here = some_and (slice_get new change.place) to (λ n. n.name ≡ name) here refl;
+      before = λ other lt is. change.first.before other lt
+          (subst (λ o. IsSomeAnd o (λ n. n.name ≡ name)) (ap (λ xs. slice_get xs other) change.is ∙ get_before old change.place other to lt) is);
+    } in
+    (change.place, first, here)

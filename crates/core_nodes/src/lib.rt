@@ -12,7 +12,7 @@
 //! and leave all consistent, whatever they answer; a hit, what a leader or a store gave and what a follower
 //! answers are legal; a refill that is taken out can be asked for; `go_down` and `come_up` empty the node of that
 //! name, which begins anew at its own marks, or where its region's stores are; `notes`, `note` and `renew` give notes that
-//! have seen all of a shard's log; `item` and `mark` are what the node holds and has processed. A commit, the
+//! have seen all of a shard's log; `item` and `mark` are what the node holds and has processed, and `deliver` tells the mark that it leaves. A commit, the
 //! merge of a job at its leader or from store to store, and the end of a job that was merged are steps of the
 //! plain machine, and leave the stores sound and covered; the first job of a shard is its first open one. Nodes
 //! that catch up, which those that are up do, have processed all that their regions' stores have, and hold just what they held
@@ -52,6 +52,7 @@ mod trimming;
 mod writes;
 
 pub use catching::Ends;
+pub use deliveries::Delivery;
 pub use fleet::Fleet;
 pub use node_stages::FirstLook;
 pub use settling::{SettleStop, shard_lengths};

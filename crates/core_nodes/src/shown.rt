@@ -1,12 +1,27 @@
 //! What a cache node holds and has processed.
 ghost use Rattle.std.specs.Prelude.{option_copied};
-ghost use Rattle.core_nodes.specs.Shown.{IsHeldAt, IsMarkAt};
+ghost use Rattle.core_nodes.specs.Shown.{IsHeldAt, IsMarkAt, IsReadOf, item_of, mark_of};
 
 use crate::fleet::Fleet;
-use core_model::find_node;
+use core_model::{Named, find_node};
 use follower_cache::Item;
 use node_name::NodeName;
+use node_stages::Cache;
 use tao_base::Key;
+
+/// The item that the node of that name holds at the key.
+fn held_at<C: Cache>(caches: &[Named<C>], name: NodeName, key: Key) -> Option<&Item>
+    ensures { IsReadOf C.node (item_of key) name caches.now (option_copied result) }
+{
+    find_node(caches, name)?.item(key)
+}
+
+/// The low-water mark of the node of that name for a shard.
+fn marked_at<C: Cache>(caches: &[Named<C>], name: NodeName, shard: u16) -> Option<u64>
+    ensures { IsReadOf C.node (mark_of shard) name caches.now result }
+{
+    Some(find_node(caches, name)?.mark(shard))
+}
 
 impl Fleet {
     /// The item that a leader or follower holds at the key. None exactly where the name is none of theirs, or the node holds no such
@@ -15,8 +30,8 @@ impl Fleet {
         ensures { IsHeldAt self.now node key (option_copied result) }
     {
         match node {
-            NodeName::Leader { .. } => find_node(&self.leaders, node)?.item(key),
-            NodeName::Follower { .. } => find_node(&self.followers, node)?.item(key),
+            NodeName::Leader { .. } => held_at(&self.leaders, node, key),
+            NodeName::Follower { .. } => held_at(&self.followers, node, key),
             NodeName::Store(_) => None,
         }
     }
@@ -27,8 +42,8 @@ impl Fleet {
         ensures { IsMarkAt self.now node shard result }
     {
         match node {
-            NodeName::Leader { .. } => Some(find_node(&self.leaders, node)?.low(shard)),
-            NodeName::Follower { .. } => Some(find_node(&self.followers, node)?.low(shard)),
+            NodeName::Leader { .. } => marked_at(&self.leaders, node, shard),
+            NodeName::Follower { .. } => marked_at(&self.followers, node, shard),
             NodeName::Store(_) => None,
         }
     }

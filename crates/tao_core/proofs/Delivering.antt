@@ -119,7 +119,7 @@ pub record ProcessLeaves (asked : DeliveryWord) (node : NodeName) (m : SeenMaint
 -- the message was processed, and its node has a mark
 pub processed : (asked : DeliveryWord) (node : NodeName) (m : SeenMaint) (told : Message) (dropped mark : ℕ) (core now : CoreState) (own : core ≡ now)
     (left : Fleet) → told ≡ shown_message m → DeliversAt (types_of core.settings.schema) m dropped node core.fleet left
-    → IsMarkTold (record core { fleet = left }) node told.shard mark → IsFleetOf core.settings left → GoesOn core.fleet left
+    → IsMarkTold (record core { fleet = left }) node m.shard mark → IsFleetOf core.settings left → GoesOn core.fleet left
     → ProcessLeaves asked node m now (AtNode (Cache (Delivered (record { word = asked; dropped = dropped; mark = mark; message = told }))))
     (record core { fleet = left })
 processed asked node m told dropped mark core now own left is delivers at fleet goes =
@@ -129,7 +129,7 @@ processed asked node m told dropped mark core now own left is delivers at fleet 
         refl,
         record {
           delivers = delivers;
-          mark = subst (λ (t : Message). IsMarkTold (record core { fleet = left }) node t.shard mark) is at;
+          mark = at;
           message_is = is;
         },
       );

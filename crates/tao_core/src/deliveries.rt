@@ -14,7 +14,7 @@ ghost use Rattle.tao_keeper.specs.KeeperState.{KeeperState};
 ghost use Rattle.tao_link.specs.Shown.{LinkShown};
 
 use crate::refusals::{no_message, no_refill};
-use crate::serving::Core;
+use crate::serving::{Core, mark_told};
 use cache_items::Item;
 use core_model::region_of;
 use core_plans::{begin_read, carry_read};
@@ -107,16 +107,14 @@ impl<'c> Core<'c> {
         ensures rest { self.new ≡ record self.old { fleet = self.new.fleet } }
     {
         let message_told = told(&message);
-        let dropped = self.nodes.fleet.deliver(self.config, node, message);
-        match self.mark(node, message_told.shard) {
-            Some(mark) => Reply::Node(NodeReply::Cache(CacheReply::Delivered(DeliveredReply {
-                word,
-                dropped,
-                mark,
-                message: message_told,
-            }))),
-            None => unreachable!(),
-        }
+        let delivery = self.nodes.fleet.deliver(self.config, node, message);
+        let mark = mark_told(&self.nodes.topology, node, delivery.mark);
+        Reply::Node(NodeReply::Cache(CacheReply::Delivered(DeliveredReply {
+            word,
+            dropped: delivery.dropped,
+            mark,
+            message: message_told,
+        })))
     }
 
     /// Takes the message at a place out of a node's inbox, and the node processes it.

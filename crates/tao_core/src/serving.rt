@@ -236,7 +236,7 @@ impl<'c> Core<'c> {
 }
 
 /// What is told of the mark of a node, of which this is the low-water mark.
-fn mark_told(topology: &Topology, node: NodeName, low: u64) -> u64
+pub(crate) fn mark_told(topology: &Topology, node: NodeName, low: u64) -> u64
     ensures { result ≡ (if is_up topology.now node then low else 0) }
 {
     if topology.is_up(node) { low } else { 0 }

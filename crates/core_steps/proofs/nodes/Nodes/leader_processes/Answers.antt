@@ -26,5 +26,5 @@ pub returns-in-Some-clause-processes : goal.returns-in-Some-clause-processes
 returns-in-Some-clause-processes c =
     let was = c.args.self.now in
     subst (λ o. ProcessesMessage (region_leader was.topology c.args.at) o was.fleet c.deliver.new.self) (sym c.in-Some.is)
-    (leader_processed c.args.at was.topology (types_of c.args.config.now.schema) c.preferred-leader.result c.in-Some.message c.deliver.result was.fleet
+    (leader_processed c.args.at was.topology (types_of c.args.config.now.schema) c.preferred-leader.result c.in-Some.message c.deliver.result.dropped was.fleet
     c.deliver.new.self c.preferred-leader.ensures.preferred c.deliver.ensures.delivers)

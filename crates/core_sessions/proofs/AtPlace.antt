@@ -3,11 +3,12 @@ use Rattle.std.proofs.Common.{◌≡◌, ℕ, zero, suc, ◌+◌, ◌<◌, ◌�
 use Rattle.std.proofs.Common.{IfSome, refl, ap, sym, ◌∙◌, subst, arith, inl, inr, slice_set}
 use Rattle.std.specs.Option.{option_map}
 use Rattle.std.specs.Prelude.{◌==◌, nat_lt, slice_get}
-use Rattle.std.specs.List.{find, AllByRecursion}
-use Rattle.std.proofs.lemmas.Bool.{cases_lt, false≢true, eq-eqb}
+use Rattle.std.specs.List.{find, AllByRecursion, AllWithin}
+use Rattle.std.proofs.lemmas.Bool.{cases_Bool, cases_lt, false≢true, eq-eqb}
 use Rattle.std.proofs.lemmas.Bool.Decides.{nat_tests}
 use Rattle.std.proofs.lemmas.Option.{slice_get_past, slice_get_read}
-use Rattle.core_sessions.proofs.InOrder.{IsPlace, above_first, found_at, is_found, other_number, rest_in_order}
+use Rattle.core_sessions.proofs.InOrder.{IsPlace, above_at, above_first, above_trans, found_at, greater, is_found, later_place, lower_differs, none_found}
+use Rattle.core_sessions.proofs.InOrder.{none_open, not_lower, other_number, rest_in_order}
 use Rattle.core_sessions.specs.Sessions.{HaveRisingNumbers, HasRoom, HasRoomForBoth, Session, SessionLearns, SessionLearnsVersion, is_open}
 use Rattle.core_sessions.specs.Sessions.{session_at, session_of, sessions_of, start_of, with_changed}
 use Rattle.core_sessions.specs.declared.sessions.CallStart.{CallStart}
@@ -18,7 +19,7 @@ use Rattle.tao_base.specs.Ids.{IsRising}
 use Rattle.tao_base.specs.Keys.{key_shard}
 use Rattle.tao_base.specs.declared.entry.Entry.{Entry}
 use Rattle.tao_base.specs.declared.id.Key.{Key}
-use Rattle.tao_base.proofs.Tests.{eqb-same}
+use Rattle.tao_base.proofs.Tests.{eqb-same, is_lower}
 
 -- the session's pass stands at the place
 pub record StandsAt (n : ℕ) (xs : List SeenPass) (i : ℕ) (p : SeenPass) : Type 0 where
@@ -29,7 +30,7 @@ pub record StandsAt (n : ℕ) (xs : List SeenPass) (i : ℕ) (p : SeenPass) : Ty
 lower_number : (m n : ℕ) → m < n → (m == n) ≡ false
 lower_number m n h = grind (arith, nat_tests)
 
-lt_from_test : (m n : ℕ) → true ≡ nat_lt m n → m < n
+pub lt_from_test : (m n : ℕ) → true ≡ nat_lt m n → m < n
 lt_from_test m n h = grind (arith, nat_tests)
 
 not_lt : (m n : ℕ) → false ≡ nat_lt m n → n ≤ m
@@ -59,6 +60,51 @@ session_first n (x ∷ xs) p = by (x.session == n) (session_first n xs p)
         → cond b (Some x) (find (λ q. q.session == n) xs) ≡ Some p → cond b (Some (session_of x)) (session_at (sessions_of xs) n) ≡ Some (session_of p)
     by true later e = ap (λ q. Some (session_of q)) (some_same x p e)
     by false later e = later e
+
+-- ---- the place of a session that stands there
+
+same_not_lower : (m n : ℕ) → m ≡ n → nat_lt m n ≡ false
+same_not_lower m n h = grind (arith, nat_tests)
+
+-- no number from the first on is below the first
+none_below : (n : ℕ) (x : SeenPass) (xs : List SeenPass) → AllByRecursion (λ p. n < p.session) xs → x.session ≡ n
+    → AllWithin (λ p. nat_lt p.session n ≡ false) (x ∷ xs) 0 (length (x ∷ xs))
+none_below n x xs above same zero d a b = same_not_lower x.session n same
+none_below n x xs above same (suc k) d a b = not_lower n (get_or xs k d).session (above_at n xs above k d (omega arith))
+
+lower_next : (n : ℕ) (x : SeenPass) (xs : List SeenPass) (i : ℕ) → nat_lt x.session n ≡ true → AllWithin (λ p. nat_lt p.session n ≡ true) xs 0 i
+    → AllWithin (λ p. nat_lt p.session n ≡ true) (x ∷ xs) 0 (suc i)
+lower_next n x xs i lower rest zero d a b = lower
+lower_next n x xs i lower rest (suc k) d a b = rest k d (omega arith) (omega arith)
+
+other_next : (n : ℕ) (x : SeenPass) (xs : List SeenPass) (i : ℕ) → AllWithin (λ p. nat_lt p.session n ≡ false) xs i (length xs)
+    → AllWithin (λ p. nat_lt p.session n ≡ false) (x ∷ xs) (suc i) (length (x ∷ xs))
+other_next n x xs i rest zero d a b = absurd (omega arith)
+other_next n x xs i rest (suc k) d a b = rest k d (omega arith) (omega arith)
+
+pub place_there : (n : ℕ) (xs : List SeenPass) (i : ℕ) (p : SeenPass) → HaveRisingNumbers xs → slice_get xs i ≡ Some p → p.session ≡ n → IsPlace n xs i
+place_there n [] i p up at same = absurd cc
+place_there n (x ∷ xs) zero p up at same =
+    let number : x.session ≡ n = ap (λ q. q.session) (some_same x p at) ∙ same in
+    let above = subst (λ m. AllByRecursion (λ q. m < q.session) xs) number (above_first x xs up) in
+    ((λ k d a b. absurd (omega arith)), none_below n x xs above number)
+place_there n (x ∷ xs) (suc i) p up at same =
+    let rest = place_there n xs i p (rest_in_order x xs up) at same in
+    let less : x.session < n = subst (λ m. x.session < m) same (above_there x.session xs i p (above_first x xs up) at) in
+    (lower_next n x xs i (is_lower x.session n less) rest.0, other_next n x xs i rest.1)
+
+-- a session that is open stands at its place
+pub seat_is : (n : ℕ) (xs : List SeenPass) (i : ℕ) → HaveRisingNumbers xs → IsPlace n xs i
+    → IfSome (session_at (sessions_of xs) n) (λ s. slice_get (sessions_of xs) i ≡ Some s)
+seat_is n [] i up point = tt
+seat_is n (x ∷ xs) zero up point = elim (cases_Bool (x.session == n)) [
+  | inl same ↦ rw same refl
+  | inr differs ↦ (
+      let more : n < x.session = greater x.session n (point.1 zero x (omega arith) (omega arith)) differs in
+      rw (differs, none_found n xs (none_open n xs (above_trans n x.session xs more (above_first x xs up)))) tt)
+]
+seat_is n (x ∷ xs) (suc i) up point =
+    rw (lower_differs x.session n (point.0 zero x (omega arith) (omega arith))) (seat_is n xs i (rest_in_order x xs up) (later_place n x xs i point))
 
 -- ---- a place that is set
 

@@ -12,7 +12,7 @@ use Rattle.shard_log.specs.View.{View}
 use Rattle.session_pass.specs.Passes.{SeenPass}
 use Rattle.tao_base.proofs.Tests.{is_lower}
 
-above_trans : (m n : ℕ) (xs : List SeenPass) → m < n → AllByRecursion (λ p. n < p.session) xs → AllByRecursion (λ p. m < p.session) xs
+pub above_trans : (m n : ℕ) (xs : List SeenPass) → m < n → AllByRecursion (λ p. n < p.session) xs → AllByRecursion (λ p. m < p.session) xs
 above_trans m n [] h above = tt
 above_trans m n (x ∷ xs) h above = (omega (arith, above.0), above_trans m n xs h above.1)
 
@@ -29,7 +29,7 @@ put_first : (x : SeenPass) (xs : List SeenPass) → AllByRecursion (λ p. x.sess
 put_first x [] above up = tt
 put_first x (y ∷ ys) above up = (above.0, up)
 
-above_at : (n : ℕ) (xs : List SeenPass) → AllByRecursion (λ p. n < p.session) xs → (k : ℕ) (d : SeenPass) → k < length xs → n < (get_or xs k d).session
+pub above_at : (n : ℕ) (xs : List SeenPass) → AllByRecursion (λ p. n < p.session) xs → (k : ℕ) (d : SeenPass) → k < length xs → n < (get_or xs k d).session
 above_at n [] above k d h = absurd (omega arith)
 above_at n (x ∷ xs) above zero d h = above.0
 above_at n (x ∷ xs) above (suc k) d h = above_at n xs above.1 k d (omega arith)
@@ -46,7 +46,7 @@ lower_first n (x ∷ xs) up zero (suc j) d l h on = lower_too x.session (get_or 
 lower_first n (x ∷ xs) up (suc i) zero d l h on = absurd (omega arith)
 lower_first n (x ∷ xs) up (suc i) (suc j) d l h on = lower_first n xs (rest_in_order x xs up) i j d (omega arith) (omega arith) on
 
-not_lower : (m n : ℕ) → m < n → nat_lt n m ≡ false
+pub not_lower : (m n : ℕ) → m < n → nat_lt n m ≡ false
 not_lower m n h = grind (arith, nat_tests)
 
 none_lower : (n : ℕ) (xs : List SeenPass) → AllByRecursion (λ p. n < p.session) xs → filter (λ s. nat_lt s.session n) (sessions_of xs) ≡ []
@@ -60,11 +60,11 @@ all_greater n (x ∷ xs) above = rw (is_lower n x.session above.0) (ap (λ l. se
 pub other_number : (m n : ℕ) → n < m → (m == n) ≡ false
 other_number m n h = grind (arith, nat_tests)
 
-none_open : (n : ℕ) (xs : List SeenPass) → AllByRecursion (λ p. n < p.session) xs → is_open (sessions_of xs) n ≡ false
+pub none_open : (n : ℕ) (xs : List SeenPass) → AllByRecursion (λ p. n < p.session) xs → is_open (sessions_of xs) n ≡ false
 none_open n [] above = refl
 none_open n (x ∷ xs) above = rw (other_number x.session n above.0) (none_open n xs above.1)
 
-greater : (m n : ℕ) → nat_lt m n ≡ false → (m == n) ≡ false → n < m
+pub greater : (m n : ℕ) → nat_lt m n ≡ false → (m == n) ≡ false → n < m
 greater m n h k = grind (arith, nat_tests)
 
 -- what is not lower and not the same is above, and so is all behind it
@@ -74,7 +74,7 @@ above_all n x xs up h = (h, above_trans n x.session xs h (above_first x xs up))
 lower_of_two : (m n : ℕ) → nat_lt m n ≡ true → nat_lt n m ≡ false
 lower_of_two m n h = grind (arith, nat_tests)
 
-lower_differs : (m n : ℕ) → nat_lt m n ≡ true → (m == n) ≡ false
+pub lower_differs : (m n : ℕ) → nat_lt m n ≡ true → (m == n) ≡ false
 lower_differs m n h = grind (arith, nat_tests)
 
 lt_from_lower : (m n : ℕ) → nat_lt m n ≡ true → m < n
@@ -84,7 +84,7 @@ lt_from_lower m n h = grind (arith, nat_tests)
 abbrev pub IsPlace : ℕ → List SeenPass → ℕ → Type 0
 IsPlace n xs i = IsPartitionPoint (λ p. nat_lt p.session n ≡ true) (λ p. nat_lt p.session n ≡ false) xs i
 
-later_place : (n : ℕ) (x : SeenPass) (xs : List SeenPass) (i : ℕ) → IsPlace n (x ∷ xs) (suc i) → IsPlace n xs i
+pub later_place : (n : ℕ) (x : SeenPass) (xs : List SeenPass) (i : ℕ) → IsPlace n (x ∷ xs) (suc i) → IsPlace n xs i
 later_place n x xs i point = ((λ k d a b. point.0 (suc k) d (omega arith) (omega arith)), (λ k d a b. point.1 (suc k) d (omega arith) (omega arith)))
 
 -- a session goes to the place behind those of lower numbers

@@ -4,7 +4,7 @@
 //! pass: one is opened with no floors; what one learns, of an entry or a version, no other does; a floor is answered as it stands, alone or with
 //! the session's place, and none exactly where the session isn't open.
 //!
-//! The contracts that say so: `Sessions::add`, `learn`, `learn_version`, `reserve`, `note`, `start`, `floor`, `at`, `is_open`;
+//! The contracts that say so: `Sessions::add`, `learn`, `learn_version`, `reserve`, `note`, `start`, `floor`, `at`, `seat`, `is_open`;
 //! `SessionLearns`, `SessionLearnsVersion`.
 #![tactic(auto)]
 

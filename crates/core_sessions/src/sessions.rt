@@ -81,21 +81,29 @@ impl Sessions {
         }
     }
 
-    /// The place of the session of that number, which is open, by a binary search.
-    pub fn at(&self, session: u32) -> OpenSession
+    /// Where the session stands among those that are open, by a binary search. Other calls take this seat, at which they look for the session
+    /// before they search.
+    pub fn seat(&self, session: u32) -> usize
+        ensures { IfSome (session_at (sessions_of self.now) session) (λ s. slice_get (sessions_of self.now) result ≡ Some s) }
+    {
+        place_of(&self.passes, session)
+    }
+
+    /// The place of the session of that number, which is open. A binary search only where it isn't at the seat.
+    pub fn at(&self, session: u32, seat: usize) -> OpenSession
         requires { is_open (sessions_of self.now) session ≡ true }
         ensures { IsSomeAnd (session_at (sessions_of self.now) session) (λ s. result ≡ opening_of s) }
     {
-        let pass = &self.passes[place_of(&self.passes, session)];
+        let pass = &self.passes[place_near(&self.passes, session, seat)];
         opening_of(pass)
     }
 
     /// Where the session's read of the key begins: its place, and the version that its reads of the key have at least, 0 where it was told
-    /// of none. None exactly where the session isn't open. A binary search, and a look-up.
-    pub fn start(&self, session: u32, key: Key) -> Option<CallStart>
+    /// of none. None exactly where the session isn't open. A look-up, and a binary search only where the session isn't at the seat.
+    pub fn start(&self, session: u32, seat: usize, key: Key) -> Option<CallStart>
         ensures { result ≡ option_map (start_of key) (session_at (sessions_of self.now) session) }
     {
-        let place = place_of(&self.passes, session);
+        let place = place_near(&self.passes, session, seat);
         match self.passes.get(place) {
             Some(found) if found.session() == session => Some(CallStart {
                 place: opening_of(found),
@@ -110,7 +118,8 @@ impl Sessions {
     pub fn floor(&self, session: u32, key: Key) -> Option<u64>
         ensures { result ≡ option_map (λ s. floor_at s.floors key) (session_at (sessions_of self.now) session) }
     {
-        match self.start(session, key) {
+        let seat = self.seat(session);
+        match self.start(session, seat, key) {
             Some(start) => Some(start.floor),
             None => None,
         }
@@ -139,13 +148,14 @@ impl Sessions {
         Ok(())
     }
 
-    /// Makes room in the session's pass for the keys of the two entries of a write. The one error is out of memory. No floor changes.
-    pub fn reserve(&mut self, session: u32) -> Result<(), OutOfMemory>
+    /// Makes room in the session's pass for the keys of the two entries of a write. The one error is out of memory. No floor changes. A binary
+    /// search only where the session isn't at the seat.
+    pub fn reserve(&mut self, session: u32, seat: usize) -> Result<(), OutOfMemory>
         requires open { is_open (sessions_of self.old) session ≡ true }
         ensures same { sessions_of self.new ≡ sessions_of self.old }
         ensures room { OnOk result (HasRoomForBoth session self.new) }
     {
-        let place = place_of(&self.passes, session);
+        let place = place_near(&self.passes, session, seat);
         self.passes[place].reserve()
     }
 
@@ -175,15 +185,22 @@ impl Sessions {
     }
 
     /// The session learns a version of a key, to which the key has come in what the note has seen: its floor there is now the greater of that
-    /// and what it was. Takes no memory.
-    pub fn learn_version(&mut self, session: u32, key: Key, version: u64, note: Note)
+    /// and what it was. Takes no memory. A binary search only where the session isn't at the seat.
+    pub fn learn_version(
+        &mut self,
+        session: u32,
+        seat: usize,
+        key: Key,
+        version: u64,
+        note: Note,
+    )
         requires open { is_open (sessions_of self.old) session ≡ true }
         requires room { HasRoom session self.old }
         requires shard { IfSome (session_at (sessions_of self.old) session) (λ s. IsNoteOf (key_shard key) note s.notes) }
         requires reached { ReachesIn note key version }
         ensures learns { SessionLearnsVersion session key version note (sessions_of self.old) (sessions_of self.new) }
     {
-        let place = place_of(&self.passes, session);
+        let place = place_near(&self.passes, session, seat);
         self.passes[place].learn(key, version, note);
     }
 }
@@ -206,6 +223,18 @@ fn place_of(passes: &[Pass], session: u32) -> usize
     ensures place { IsPartitionPoint (λ p. nat_lt p.session session ≡ true) (λ p. nat_lt p.session session ≡ false) passes.now result }
 {
     passes.partition_point(|open| open.session() < session)
+}
+
+/// The same, without a search where the session stands at the seat.
+fn place_near(passes: &[Pass], session: u32, seat: usize) -> usize
+    requires { HaveRisingNumbers passes.now }
+    ensures within { result ≤ length passes.now }
+    ensures place { IsPartitionPoint (λ p. nat_lt p.session session ≡ true) (λ p. nat_lt p.session session ≡ false) passes.now result }
+{
+    match passes.get(seat) {
+        Some(found) if found.session() == session => seat,
+        _ => place_of(passes, session),
+    }
 }
 
 /// Puts a pass in before the one at the place, and so before all behind it.

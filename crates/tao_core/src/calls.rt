@@ -52,16 +52,16 @@ fn call_shard(call: &CheckedCall) -> u16
 }
 
 /// Where a session's call begins: its place, and the version that the answer has at least, which for a read is its floor of its key.
-fn call_start(sessions: &Sessions, call: &CheckedCall) -> CallStart
+fn call_start(sessions: &Sessions, seat: usize, call: &CheckedCall) -> CallStart
     requires { is_open (sessions_of sessions.now) (call_session call.now) ≡ true }
     ensures { IsSomeAnd (session_at (sessions_of sessions.now) (call_session call.now)) (λ s. result ≡ call_start call.now s) }
 {
     match call {
         CheckedCall::Write(call) => CallStart {
-            place: sessions.at(call.session),
+            place: sessions.at(call.session, seat),
             floor: 0,
         },
-        CheckedCall::Read(call) => match sessions.start(call.session, call.query.key()) {
+        CheckedCall::Read(call) => match sessions.start(call.session, seat, call.query.key()) {
             Some(start) => start,
             None => unreachable!(),
         },
@@ -70,12 +70,16 @@ fn call_start(sessions: &Sessions, call: &CheckedCall) -> CallStart
 
 /// Makes room for what the session of a write is to learn, before its first stage; that of a read gets ready before each stage that may answer
 /// it. The one error is out of memory.
-pub(crate) fn make_room(sessions: &mut Sessions, call: &CheckedCall) -> Result<(), OutOfMemory>
+pub(crate) fn make_room(
+    sessions: &mut Sessions,
+    from: PlanStart,
+    call: &CheckedCall,
+) -> Result<(), OutOfMemory>
     requires { is_open (sessions_of sessions.old) (call_session call.now) ≡ true }
     ensures { sessions_of sessions.new ≡ sessions_of sessions.old }
 {
     match call {
-        CheckedCall::Write(call) => sessions.reserve(call.session),
+        CheckedCall::Write(call) => sessions.reserve(call.session, from.seat),
         CheckedCall::Read(_) => Ok(()),
     }
 }
@@ -94,6 +98,8 @@ fn client_of(call: &CheckedWrite) -> Origin
 #[derive(Clone, Copy)]
 pub(crate) struct PlanStart {
     start: CallStart,
+    /// Where the session is looked for first.
+    seat: usize,
     follower: NodeName,
 }
 
@@ -102,7 +108,9 @@ fn begun_read(config: &Config, from: PlanStart, call: CheckedRead) -> ReadPlan
     ensures { (session : Session) → from.start ≡ call_start (CheckedCall.Read call) session
         → HeldPlan.Read result ≡ begun_plan config.now session from.follower (CheckedCall.Read call) }
 {
-    let PlanStart { start, follower } = from;
+    let PlanStart {
+        start, follower, ..
+    } = from;
     let OpenSession { region, tier, .. } = start.place;
     let of = TierPlace { region, tier };
     let mut plan = begin_read(config, call.query, of, start.floor, call.critical, follower);
@@ -115,7 +123,9 @@ fn begun_write(from: PlanStart, call: CheckedWrite) -> WritePlan
     ensures { (s : Settings) (session : Session) → from.start ≡ call_start (CheckedCall.Write call) session
         → HeldPlan.Write result ≡ begun_plan s session from.follower (CheckedCall.Write call) }
 {
-    let PlanStart { start, follower } = from;
+    let PlanStart {
+        start, follower, ..
+    } = from;
     let OpenSession { region, tier, .. } = start.place;
     let origin = client_of(&call);
     WritePlan::begin(call.write, origin, region, tier, follower)
@@ -141,11 +151,16 @@ pub(crate) fn begin_plan(
     ensures begins { IfOk result (λ from. BeginsAt topology.now (sessions_of sessions.now) call.now from.start from.follower) }
     ensures refused { IfErr result (IsNotBegun topology.now (sessions_of sessions.now) call.now) }
 {
-    let start = call_start(sessions, call);
+    let seat = sessions.seat(call_session(call));
+    let start = call_start(sessions, seat, call);
     let CallStart { place, .. } = start;
     let shard = call_shard(call);
     match topology.follower(place.region, place.tier, shard) {
-        Some(follower) => Ok(PlanStart { start, follower }),
+        Some(follower) => Ok(PlanStart {
+            start,
+            seat,
+            follower,
+        }),
         None => Err(no_server(place.region)),
     }
 }
@@ -256,6 +271,7 @@ impl<'c> Core<'c> {
             &mut self.nodes.fleet,
             self.config,
             call.session,
+            from.seat,
             call.query.shard(),
         );
         match ready {
@@ -292,7 +308,7 @@ impl<'c> Core<'c> {
             (moment self.new (K.state keepers.new) (L.shown link.new)) }
         ensures usable { StaysUsable K.TELLS (K.state keepers.old) (K.state keepers.new) self.old self.new }
     {
-        match self.sessions.reserve(call.session) {
+        match self.sessions.reserve(call.session, from.seat) {
             Ok(()) => {
                 let mut plan = begun_write(from, call);
                 carry_write(&mut self.nodes, self.config, keepers, link, &mut plan);

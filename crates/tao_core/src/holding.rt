@@ -100,13 +100,15 @@ fn ready_for_last(
     let Some(session) = plan.learner() else {
         return Ok(None);
     };
+    let seat = sessions.seat(session);
     match plan {
         HeldPlan::Read(plan) => {
-            let reader = ready_reader(sessions, fleet, config, session, plan.query().shard())?;
+            let shard = plan.query().shard();
+            let reader = ready_reader(sessions, fleet, config, session, seat, shard)?;
             Ok(Some(reader))
         }
         HeldPlan::Write(_) => {
-            sessions.reserve(session)?;
+            sessions.reserve(session, seat)?;
             Ok(None)
         }
     }
@@ -239,7 +241,7 @@ impl<'c> Core<'c> {
                 return reply;
             }
         };
-        if make_room(&mut self.sessions, &call).is_err() {
+        if make_room(&mut self.sessions, from, &call).is_err() {
             drop(call);
             return out_of_memory();
         }

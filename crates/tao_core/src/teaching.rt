@@ -45,6 +45,8 @@ pub(crate) fn learn_both(sessions: &mut Sessions, session: u32, told: LearntEntr
 #[derive(Drop)]
 pub struct Reader {
     pub session: u32,
+    /// Where the session is looked for first.
+    pub seat: usize,
     pub note: Note,
 }
 
@@ -55,6 +57,7 @@ pub(crate) fn ready_reader(
     fleet: &mut Fleet,
     config: &Config,
     session: u32,
+    seat: usize,
     shard: u16,
 ) -> Result<Reader, OutOfMemory>
     requires open { is_open (sessions_of sessions.old) session ≡ true }
@@ -65,9 +68,13 @@ pub(crate) fn ready_reader(
     ensures sessions { sessions_of sessions.new ≡ sessions_of sessions.old }
     ensures fleet { fleet.new ≡ fleet.old }
 {
-    sessions.reserve(session)?;
+    sessions.reserve(session, seat)?;
     let note = fleet.note(config, shard)?;
-    Ok(Reader { session, note })
+    Ok(Reader {
+        session,
+        seat,
+        note,
+    })
 }
 
 /// A session that is ready learns a version of a key, to which the key's log has come. Takes no memory.
@@ -88,9 +95,13 @@ pub(crate) fn learn_version(
     ensures fleet { fleet.new ≡ fleet.old }
 {
     match reader {
-        Some(Reader { session, note }) => {
+        Some(Reader {
+            session,
+            seat,
+            note,
+        }) => {
             let note = fleet.renew(config, key.shard(), note);
-            sessions.learn_version(session, key, version, note);
+            sessions.learn_version(session, seat, key, version, note);
         }
         None => (),
     }

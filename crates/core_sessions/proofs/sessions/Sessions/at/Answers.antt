@@ -7,13 +7,13 @@ pub index-pass-requires : goal.index-pass-requires
 index-pass-requires c =
     let items = c.self.inside.passes.items in
     let there : is_open (sessions_of items) c.args.session ≡ true = rw c.self.view_is c.requires in
-    let less = within c.args.session items c.deref.result.now c.place_of.result c.deref.ensures.value c.self.invariant there c.place_of.ensures.place in
+    let less = within c.args.session items c.deref.result.now c.place_near.result c.deref.ensures.value c.self.invariant there c.place_near.ensures.place in
     omega (arith, less, c.self.inside.passes.ok.0)
 
 pub returns : goal.returns
 returns c =
     let items = c.self.inside.passes.items in
     let there : is_open (sessions_of items) c.args.session ≡ true = rw c.self.view_is c.requires in
-    let here = stands c.args.session items c.deref.result.now c.place_of.result c.index-pass.result.now c.deref.ensures.value c.self.invariant there
-    c.place_of.ensures.place c.index-pass.ensures in
-    rw (← c.self.view_is) (rw (session_is c.args.session items c.place_of.result c.index-pass.result.now here) (search rules))
+    let here = stands c.args.session items c.deref.result.now c.place_near.result c.index-pass.result.now c.deref.ensures.value c.self.invariant there
+    c.place_near.ensures.place c.index-pass.ensures in
+    rw (← c.self.view_is) (rw (session_is c.args.session items c.place_near.result c.index-pass.result.now here) (search rules))

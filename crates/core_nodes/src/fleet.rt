@@ -1,4 +1,6 @@
 //! All nodes of a core in one value: its leaders, its followers and its stores.
+ghost use Rattle.std.specs.Prelude.{◌≡◌};
+
 use core_model::Named;
 use follower_cache::Follower;
 use leader_tier::Leader;
@@ -23,4 +25,32 @@ impl Model for Fleet {
     ghost Value = { Fleet };
 
     ghost view = { fleet_seen };
+}
+
+/// The nodes of a core, each on its own.
+#[derive(Drop)]
+pub struct FleetParts {
+    pub leaders: Vec<Named<Leader>>,
+    pub followers: Vec<Named<Follower>>,
+    pub stores: Vec<StoreNode>,
+}
+
+impl Fleet {
+    /// Takes the nodes of a core apart, in their order, for who puts each behind a lock of its own. Takes no memory.
+    pub fn into_parts(self) -> FleetParts
+        ensures leaders { result.leaders.items ≡ self.leaders }
+        ensures followers { result.followers.items ≡ self.followers }
+        ensures stores { result.stores.items ≡ self.stores }
+    {
+        let Fleet {
+            leaders,
+            followers,
+            stores,
+        } = self;
+        FleetParts {
+            leaders,
+            followers,
+            stores,
+        }
+    }
 }

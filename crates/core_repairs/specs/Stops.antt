@@ -8,7 +8,7 @@ use Rattle.replies.specs.declared.refusals.Refusal.TheVariants.{Memory, Node, St
 use Rattle.replies.specs.declared.refusals.StoreRefused.TheVariants.{KeeperFault, LinkFault, LogFull}
 use Rattle.replies.specs.declared.refusals.UnsettledWhy.TheVariants as why
 
--- a job or a step of a stream is refused for a fault, a full log, want of memory, or since a job is owed on no configured shard
+-- a job or a step of a stream is refused for a fault, a full log, as out of memory, or since a job is owed on no configured shard
 abbrev pub IsOfSettles : Refusal → Type 0
 IsOfSettles (Store (KeeperFault count)) = ⊤
 IsOfSettles (Store (LinkFault count when)) = ⊤

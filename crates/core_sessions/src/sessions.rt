@@ -186,14 +186,7 @@ impl Sessions {
 
     /// The session learns a version of a key, to which the key has come in what the note has seen: its floor there is now the greater of that
     /// and what it was. Takes no memory. A binary search only where the session isn't at the seat.
-    pub fn learn_version(
-        &mut self,
-        session: u32,
-        seat: usize,
-        key: Key,
-        version: u64,
-        note: Note,
-    )
+    pub fn learn_version(&mut self, session: u32, seat: usize, key: Key, version: u64, note: Note)
         requires open { is_open (sessions_of self.old) session ≡ true }
         requires room { HasRoom session self.old }
         requires shard { IfSome (session_at (sessions_of self.old) session) (λ s. IsNoteOf (key_shard key) note s.notes) }

@@ -109,7 +109,9 @@ fn begun_read(config: &Config, from: PlanStart, call: CheckedRead) -> ReadPlan
         → HeldPlan.Read result ≡ begun_plan config.now session from.follower (CheckedCall.Read call) }
 {
     let PlanStart {
-        start, follower, ..
+        start,
+        follower,
+        ..
     } = from;
     let OpenSession { region, tier, .. } = start.place;
     let of = TierPlace { region, tier };
@@ -124,7 +126,9 @@ fn begun_write(from: PlanStart, call: CheckedWrite) -> WritePlan
         → HeldPlan.Write result ≡ begun_plan s session from.follower (CheckedCall.Write call) }
 {
     let PlanStart {
-        start, follower, ..
+        start,
+        follower,
+        ..
     } = from;
     let OpenSession { region, tier, .. } = start.place;
     let origin = client_of(&call);

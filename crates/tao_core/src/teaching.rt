@@ -95,11 +95,13 @@ pub(crate) fn learn_version(
     ensures fleet { fleet.new ≡ fleet.old }
 {
     match reader {
-        Some(Reader {
-            session,
-            seat,
-            note,
-        }) => {
+        Some(
+            Reader {
+                session,
+                seat,
+                note,
+            },
+        ) => {
             let note = fleet.renew(config, key.shard(), note);
             sessions.learn_version(session, seat, key, version, note);
         }

@@ -6,7 +6,7 @@ use Rattle.std.specs.Prelude.{IsSomeAnd, slice_get, slice_index_or, slice_set}
 use Rattle.node_name.specs.declared.NodeName.{NodeName}
 use Rattle.core_model.specs.Fleet.{ChangesNode, IsFirstAt, IsNodeOfName, named}
 use Rattle.core_model.specs.declared.named.Named.{Named}
-use Rattle.core_model.proofs.NamedNodes.{named_stands}
+use Rattle.core_model.proofs.NamedNodes.{named_at, named_stands}
 use Rattle.core_model.proofs.Places.{get_set, one_some, set_get, some_and}
 use Rattle.core_nodes.specs.Stages.{NodeIs}
 
@@ -61,21 +61,24 @@ is_after Such By name old new change is place node first h =
       | inr e ↦ subst (λ n. Such n.node) e.1 is
     ]
 
--- and stands first of its name
+-- what stands before the place that is set
 get_before : {X : Type 0} (xs : List X) (place other : ℕ) (x : X) → other < place → slice_get (slice_set xs place x) other ≡ slice_get xs other
 get_before [] place other x lt = refl
 get_before (y ∷ ys) zero other x lt = absurd (omega (arith, lt))
 get_before (y ∷ ys) (suc place) zero x lt = refl
 get_before (y ∷ ys) (suc place) (suc other) x lt = get_before ys place other x (omega (arith, lt))
 
-pub node_after : {N : Type 0} (By : N → N → Type 0) (name : NodeName) (old new : List (Named N)) (change : ChangesNode name By old new)
-    → IsNodeOfName name new (Some change.to)
-node_after By name old new change =
-    let to = named name change.to in
-    let here = ap (λ xs. slice_get xs change.place) change.is ∙ set_get old change.place (named name change.from) to change.stands in
-    let first : IsFirstAt name new change.place = record {
-      here = some_and (slice_get new change.place) to (λ n. n.name ≡ name) here refl;
-      before = λ other lt is. change.first.before other lt
-          (subst (λ o. IsSomeAnd o (λ n. n.name ≡ name)) (ap (λ xs. slice_get xs other) change.is ∙ get_before old change.place other to lt) is);
+-- the first node of a name, once it was set
+pub node_set : {N : Type 0} (nodes : List (Named N)) (name : NodeName) (place : ℕ) (d : Named N) (to : N) → IsFirstAt name nodes place
+    → IsNodeOfName name (slice_set nodes place (record (slice_index_or nodes place d) { node = to })) (Some to)
+node_set {N} nodes name place d to first =
+    let set = named name to in
+    let here : slice_get (slice_set nodes place set) place ≡ Some set =
+    set_get nodes place (named name (slice_index_or nodes place d).node) set (named_stands nodes name place d first) in
+    let after : IsFirstAt name (slice_set nodes place set) place = record {
+      here = some_and (slice_get (slice_set nodes place set) place) set (λ n. n.name ≡ name) here refl;
+      before = λ other lt is. first.before other lt
+          (subst (λ (o : Option (Named N)). IsSomeAnd o (λ n. n.name ≡ name)) (get_before nodes place other set lt) is);
     } in
-    (change.place, first, here)
+    subst (λ xs. IsNodeOfName name xs (Some to)) (ap (λ x. slice_set nodes place (named x to)) (sym (named_at nodes name place d first).is))
+    (place, after, here)

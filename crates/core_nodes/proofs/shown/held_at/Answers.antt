@@ -10,8 +10,8 @@ returns-in_err-find_node g c = record {
   found_is = ap option_copied c.from_residual.ensures;
 }
 
-pub returns-in_ok-find_node : goal.returns-in_ok-find_node
-returns-in_ok-find_node g c = record {
+pub returns : goal.returns
+returns g c = record {
   cache = Some c.in_ok-find_node.field-0.now;
   is = subst (λ o. IsNodeOfName c.args.name c.args.caches.now (option_copied o)) c.in_ok-find_node.was c.find_node.ensures;
   found_is = c.item.ensures;

@@ -74,7 +74,7 @@ module _ (tables : Tables) where
     empty = λ inboxes none place name waiting stands. subst (AreOfStore name) (sym (empty_at inboxes place name waiting none stands)) tt;
   }
 
--- ---- who is told
+-- ---- who is notified
 
 module _ (tables : Tables) (states : NodeStates) (shard : ℕ) (m : SeenMaint) where
   abbrev IsOf : NodeName → Type 0

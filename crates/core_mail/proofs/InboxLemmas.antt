@@ -106,7 +106,7 @@ module _ (s : Settings) (pens : Pens) where
       sends_kept names m sends.0 new all.1 sends.2
       (change_kept (IsSent m) name old sends.0 sends.1 (λ from to sent was. sent_kept name m from to all.0 sent was) is)
 
-  -- who is told of an entry serves its shard
+  -- who is notified of an entry serves its shard
   notified_serve : (states : NodeStates) (region shard : ℕ) (m : SeenMaint) → states.regions ≡ regions_of s → m.shard ≡ shard
       → ((name : NodeName) → serves_in_turn (regions_of s) name m.shard ≡ true → IsMessageFor s pens name m)
       → AllByRecursion (λ name. IsMessageFor s pens name m) (notified_of states region shard)
@@ -119,11 +119,11 @@ module _ (s : Settings) (pens : Pens) where
       (all_of_image (λ name. IsMessageFor s pens name m) (λ t. serving_follower states.regions region t shard)
       (λ t. is (serving_follower states.regions region t shard) (serve t)) tiers)
 
-  -- one node is told, which serves the shard
-  pub tell_kept : (name : NodeName) (shard : ℕ) (entry : Entry) (note : View) (old new : Inboxes) → shard < s.shards
+  -- one node is notified, which serves the shard
+  pub notify_kept : (name : NodeName) (shard : ℕ) (entry : Entry) (note : View) (old new : Inboxes) → shard < s.shards
       → serves_in_turn (regions_of s) name shard ≡ true → StandsIn note entry → LiesOn note shard entry
       → Sends (name ∷ []) (entry_message shard entry note) old new → IsSeen pens shard note → AreInboxesOf s pens old → AreInboxesOf s pens new
-  tell_kept name shard entry note old new here serves stands lies sends seen is =
+  notify_kept name shard entry note old new here serves stands lies sends seen is =
       let for : IsMessageFor s pens name (entry_message shard entry note) =
       record { here = here; serves = serves; seen = seen; names = is_maint entry shard note stands lies } in
       sends_kept (name ∷ []) (entry_message shard entry note) old new (for, tt) sends is

@@ -1,4 +1,4 @@
--- One follower of a region after another is told of an entry.
+-- One follower of a region after another is notified of an entry.
 use Rattle.std.proofs.Common.{◌≡◌, ℕ, suc, ◌+◌, ◌-◌, ◌<◌, ◌≤◌, true, false, List, ◌∷◌, ◌++◌, map, refl, ap, sym, ◌∙◌, subst, arith}
 use Rattle.std.proofs.lemmas.Bool.{and_parts}
 use Rattle.std.proofs.lemmas.List.{append-nil}
@@ -17,7 +17,7 @@ use Rattle.core_model.specs.Messages.{notified_of}
 use Rattle.core_model.proofs.Turns.{named_follower}
 use Rattle.core_mail.specs.Inboxes.{Inboxes, Sends, cache_names}
 
--- who is told, from a tier on
+-- who is notified, from a tier on
 abbrev pub notified_from : NodeStates → ℕ → ℕ → ℕ → List NodeName
 notified_from states region shard tier =
     filter (is_up states) (map (λ t. serving_follower states.regions region t shard) (range_with_len tier (tier_count states.regions region - tier)))

@@ -42,13 +42,13 @@ pub record ArrivedStay (tables : Tables) : Type 0 where
   -- or those of every node
   pub empty : (inboxes : Inboxes) → AreEmpty inboxes → HaveArrived tables inboxes
 
--- where a store has come to a message, so have those of the nodes that are told of it there
+-- where a store has come to a message, so have those of the nodes that are notified of it there
 pub record NotifiedOfStore (tables : Tables) (states : NodeStates) (shard : ℕ) (message : SeenMaint) : Type 0 where
   pub of : (region : ℕ) → message.position ≤ store_length tables region message.shard
       → AllByRecursion (λ name. IsOfStore tables name message) (notified_of states region shard)
   -- besides them the leader that the master's region prefers
   pub besides : message.position ≤ store_length tables (master_region states shard) message.shard
       → AllByRecursion (λ name. IsOfStore tables name message) (notified_besides states shard)
-  -- and all that are told of what a leader wrote
+  -- and all that are notified of what a leader wrote
   pub by : (leader : NodeName) → message.position ≤ store_length tables (master_region states shard) message.shard
       → AllByRecursion (λ name. IsOfStore tables name message) (notified_by states leader shard)

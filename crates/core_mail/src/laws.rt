@@ -20,7 +20,7 @@ pub fn arrived_stay()
     ensures { (tables : Tables) → ArrivedStay tables }
 {}
 
-/// Who is told of what a store has is of that store's region.
+/// Who is notified of what a store has is of that store's region.
 #[tactic(auto, using(crate::proofs::Arrivals::notified_of_store))]
 pub fn notified_of_store()
     ensures { (tables : Tables) (states : NodeStates) (shard : ℕ) (message : SeenMaint) → NotifiedOfStore tables states shard message }

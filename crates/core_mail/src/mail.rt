@@ -75,7 +75,7 @@ impl Mail {
         })
     }
 
-    /// Tells of an entry of a shard's log that the region's store took: of each tier of the region, in order, the follower that serves
+    /// Notifies of an entry of a shard's log that the region's store took: of each tier of the region, in order, the follower that serves
     /// the shard, where it is up, is sent a message with a note of its own, which comes behind the others.
     ///
     /// With 4,096 messages waiting the message is lost, and so it is without memory for its note, its keys or its place; the others
@@ -101,7 +101,7 @@ impl Mail {
         send_each(&mut self.inboxes, around, topology, at, entry, note);
     }
 
-    /// Tells one leader or follower of an entry of a shard that it serves: it is sent a message with a note of its own, which comes
+    /// Notifies one leader or follower of an entry of a shard that it serves: it is sent a message with a note of its own, which comes
     /// behind the others.
     ///
     /// With 4,096 messages waiting the message is lost, and so it is without memory for its note, its keys or its place. Takes no

@@ -40,7 +40,7 @@ IsMessageFor s pens name m = IsRightMessage s (IsSeen pens) name m
 abbrev pub IsOfStore : Tables → NodeName → SeenMaint → Type 0
 IsOfStore tables name m = m.position ≤ store_length tables (region_of name) m.shard
 
--- who is told of an entry that the region's store took: of each tier the follower that serves the shard, where it is up
+-- who is notified of an entry that the region's store took: of each tier the follower that serves the shard, where it is up
 abbrev pub notified_of : NodeStates → ℕ → ℕ → List NodeName
 notified_of states region shard = filter (is_up states) (followers_in_turn states.regions region 0 shard)
 
@@ -48,7 +48,7 @@ notified_of states region shard = filter (is_up states) (followers_in_turn state
 abbrev pub notified_besides : NodeStates → ℕ → List NodeName
 notified_besides states shard = filter (is_up states) (preferred_leader states (master_region states shard) shard ∷ [])
 
--- who is told of an entry of a shard that a leader wrote
+-- who is notified of an entry of a shard that a leader wrote
 abbrev pub notified_by : NodeStates → NodeName → ℕ → List NodeName
 notified_by states leader shard = notified_of states (master_region states shard) shard
     ++ (if serves_in_turn states.regions leader shard then [] else notified_besides states shard)

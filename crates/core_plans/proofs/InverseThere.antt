@@ -294,7 +294,7 @@ abbrev inverse_in : Reply → InverseEnd
 inverse_in (Called (called.Write reply)) = reply.written.inverse
 inverse_in reply = Written
 
--- the job isn't open where nothing is left to do and the inverse is told as written
+-- the job isn't open where nothing is left to do and the inverse is said to be written
 closed : (s : Settings) (shard : ℕ) (e : Entry) (tables : Tables) (job : Option Job) (state : OtherEnd) (other : Bool) (next : WriteStage)
     → JobStands s shard e job state tables → stage_said (unwrap_or (option_and_then (λ _. job_stage state) job) next) ≡ None
     → Written ≡ inverse_said other state → (stores_in s tables).job shard e.position ≡ None
@@ -304,12 +304,12 @@ closed s shard e tables (Some j) Due other next stands over told = absurd (cc)
 closed s shard e tables (Some j) Merged other next stands over told = absurd (cc)
 closed s shard e tables (Some j) (Open why) other next stands over told = absurd (cc)
 
--- an entry, as it is told
-abbrev as_told : ℕ → View → Entry → LearntEntry
-as_told shard note e = record { shard = shard; entry = e; note = note }
+-- an entry, as it is learnt
+abbrev as_learnt : ℕ → View → Entry → LearntEntry
+as_learnt shard note e = record { shard = shard; entry = e; note = note }
 
 learnt_so : (shard : ℕ) (note : View) (entry : Option Entry) (P : Entry → Type 0) → IfSome entry P
-    → IfSome (option_map (as_told shard note) entry) (λ t. P t.entry)
+    → IfSome (option_map (as_learnt shard note) entry) (λ t. P t.entry)
 learnt_so shard note None P is = tt
 learnt_so shard note (Some e) P is = is
 

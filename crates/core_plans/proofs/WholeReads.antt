@@ -6,7 +6,7 @@ use Rattle.core_plans.specs.HeldReads.{ChangesFollowers, ComesOfRead, DoesKeep, 
 use Rattle.core_plans.specs.LedBy.{Rules}
 use Rattle.core_plans.specs.Needs.{first_down, read_needs}
 use Rattle.core_plans.specs.WholeCalls.{CarriesOut, PassesStage, read_stages_left}
-use Rattle.core_plans.specs.WholeLaws.{IsBegunRead, TellsCost, WholeRead}
+use Rattle.core_plans.specs.WholeLaws.{IsBegunRead, SaysCost, WholeRead}
 use Rattle.core_plans.specs.declared.held.HeldPlan.{HeldPlan}
 use Rattle.core_plans.specs.declared.held.HeldPlan.TheVariants.{Read, Write}
 use Rattle.core_plans.proofs.ReadEndings.{ended_legally, ended_reader}
@@ -128,7 +128,7 @@ costs_on rules first p q old new so stage =
       never = read_never rules p q old new does;
     }
 
--- ---- what its reply tells
+-- ---- what its reply says
 
 abbrev hops_in : Reply → ℕ
 hops_in (Called (called.Read reply)) = reply.hops
@@ -139,33 +139,33 @@ store_in (Called (called.Read reply)) = reply.store
 store_in reply = false
 
 -- its own hops, and its own `store`
-record TellsOwn (q : Reading) (reply : ReadReply) : Type 0 where
+record SaysOwn (q : Reading) (reply : ReadReply) : Type 0 where
   hops : reply.hops ≡ q.hops
   store : reply.store ≡ q.store
 
-tells_own : (at : Standing) (q : Reading) (reply : ReadReply) → NeverCalled at → EndsAt at q (Called (called.Read reply)) → TellsOwn q reply
-tells_own (Ended (ended.Answered answer version held)) q reply never ends = record { hops = ap hops_in ends; store = ap store_in ends }
-tells_own (Ended (ended.Refused own)) q reply never ends = absurd (never own (called.Read reply) refl (sym ends))
-tells_own Looking q reply never ends = absurd ends
-tells_own Asking q reply never ends = absurd ends
-tells_own Mastering q reply never ends = absurd ends
-tells_own (Keeping given) q reply never ends = absurd ends
+says_own : (at : Standing) (q : Reading) (reply : ReadReply) → NeverCalled at → EndsAt at q (Called (called.Read reply)) → SaysOwn q reply
+says_own (Ended (ended.Answered answer version held)) q reply never ends = record { hops = ap hops_in ends; store = ap store_in ends }
+says_own (Ended (ended.Refused own)) q reply never ends = absurd (never own (called.Read reply) refl (sym ends))
+says_own Looking q reply never ends = absurd ends
+says_own Asking q reply never ends = absurd ends
+says_own Mastering q reply never ends = absurd ends
+says_own (Keeping given) q reply never ends = absurd ends
 
 -- one that was refused tells none
-refused_tells : (q : Reading) (reply : ReadReply) → NeverCalled q.at → IsRefused q → EndsAt q.at q (Called (called.Read reply)) → ⊥
-refused_tells q reply never is ends =
+refused_says : (q : Reading) (reply : ReadReply) → NeverCalled q.at → IsRefused q → EndsAt q.at q (Called (called.Read reply)) → ⊥
+refused_says q reply never is ends =
     let own : Called (called.Read reply) ≡ is.reply = subst (λ at. EndsAt at q (Called (called.Read reply))) is.at ends in
     never is.reply (called.Read reply) is.at (sym own)
 
-tells_cost : (first : World) (q : HeldPlan) (now : World) (reply : ReadReply) → OfRead (CostsSoFar first) q now → IsOver q (Called (called.Read reply))
-    → TellsCost reply first now
-tells_cost first (Read q) now reply so over =
-    let own = tells_own q.at q reply so.never over in
+says_cost : (first : World) (q : HeldPlan) (now : World) (reply : ReadReply) → OfRead (CostsSoFar first) q now → IsOver q (Called (called.Read reply))
+    → SaysCost reply first now
+says_cost first (Read q) now reply so over =
+    let own = says_own q.at q reply so.never over in
     elim so.costs [
       | inl cost ↦ record { hops = own.hops ∙ cost.taken.hops_is; store = own.store ∙ cost.called.store_is }
-      | inr refused ↦ absurd (refused_tells q reply so.never refused over)
+      | inr refused ↦ absurd (refused_says q reply so.never refused over)
     ]
-tells_cost first (Write q) now reply so over = absurd so
+says_cost first (Write q) now reply so over = absurd so
 
 begun_costs : (p : Reading) (now : World) → IsBegunRead p → CostsSoFar now p now
 begun_costs p now is =
@@ -206,7 +206,7 @@ module _ (rules : Rules) (p : Reading) (old : World) (q : HeldPlan) (new : World
 
   pub whole_reads : WholeRead rules p old q new
   whole_reads = record {
-    cost = λ begun out reply over. tells_cost old q new reply
+    cost = λ begun out reply over. says_cost old q new reply
         (read_keeps rules (CostsSoFar old) (costs_on rules old) out.stages p q old new (begun_costs p old begun) out.passes) over;
     tables = λ out. (leaves out).tables;
     inboxes = λ out. (leaves out).inboxes;

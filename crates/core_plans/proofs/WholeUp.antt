@@ -146,15 +146,15 @@ ask_fails (refusal.Session why) before after is = absurd is
 ask_fails (refusal.Name why) before after is = absurd is
 
 not_given : (s : Settings) (route : Route) (read : Wanted) (r : Refusal) (old new : World) → IsNotGiven s route read r old new → IsNoNodes (Refused r)
-not_given s route read r old new (inl question) = link_fails r _ question.told
+not_given s route read r old new (inl question) = link_fails r _ question.said
 not_given s route read r old new (inr (inl nothing)) = ask_fails r old.keepers new.keepers nothing.fails
-not_given s route read r old new (inr (inr lost)) = link_fails r _ lost.lost.told
+not_given s route read r old new (inr (inr lost)) = link_fails r _ lost.lost.said
 
 not_read : (s : Settings) (follower : NodeName) (query : Query) (r : Refusal) (old new : World) → IsNotRead s follower query r old new
     → IsNoNodes (Refused r)
-not_read s follower query r old new (inl question) = link_fails r _ question.told
+not_read s follower query r old new (inl question) = link_fails r _ question.said
 not_read s follower query r old new (inr (inl nothing)) = ask_fails r old.keepers new.keepers nothing.fails
-not_read s follower query r old new (inr (inr lost)) = link_fails r _ lost.lost.told
+not_read s follower query r old new (inr (inr lost)) = link_fails r _ lost.lost.said
 
 refuses_commit : (tells : Bool) (s : Settings) (sent : SentWrite) (r : Refusal) (old new : World) → RefusesCommit tells s sent r old new
     → IsNoNodes (Refused r)

@@ -182,18 +182,18 @@ takes_on rules first p q old new so stage = record {
   never = refused_so rules p q old new so.never stage.steps;
 }
 
--- ---- what its reply tells
+-- ---- what its reply says
 
 abbrev hops_in : Reply → ℕ
 hops_in (Called (called.Write reply)) = reply.hops
 hops_in reply = 0
 
-tells_hops : (first : LinkShown) (q : HeldPlan) (now : World) (reply : WriteReply) → OfWrite (TakesSoFar first) q now
+says_hops : (first : LinkShown) (q : HeldPlan) (now : World) (reply : WriteReply) → OfWrite (TakesSoFar first) q now
     → IsOver q (Called (called.Write reply)) → reply.hops ≡ hops_between first now.link
-tells_hops first (Write q) now reply so over =
+says_hops first (Write q) now reply so over =
     let by = answered_write q (called.Write reply) so.never over in
     ap hops_in by.reply_is ∙ (so.taken by.unrefused).hops_is
-tells_hops first (Read q) now reply so over = absurd so
+says_hops first (Read q) now reply so over = absurd so
 
 begun_takes : (p : Writing) (now : World) → IsBegunWrite p → TakesSoFar now.link p now
 begun_takes p now is =
@@ -218,7 +218,7 @@ begun_takes p now is =
 
 pub whole_writes : (rules : Rules) (p : Writing) (old : World) (q : HeldPlan) (new : World) → WholeWrite rules p old q new
 whole_writes rules p old q new = record {
-  cost = λ begun out reply over. tells_hops old.link q new reply
+  cost = λ begun out reply over. says_hops old.link q new reply
       (write_keeps rules (TakesSoFar old.link) (takes_on rules old.link) out.stages p q old new (begun_takes p old begun) out.passes) over;
   way = λ begun ahead out reply over r is. its_way old.link q new reply
       (write_keeps rules (OnItsWay old.link) (way_on rules old.link) out.stages p q old new (begun_way p old begun ahead) out.passes)

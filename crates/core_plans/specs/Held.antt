@@ -63,15 +63,15 @@ IsUnderWay tells s tables f (Write p) = IsWriteUnderWay tells s tables f p
 abbrev pub learnt_here : Writing → Option LearntEntry
 learnt_here p = option_and_then (λ c. learnt_entry_of (write_shard p.write) c.wrote) p.committed
 
--- a session is told of it, and of the entry that was written at the other end
+-- a session learns it, and the entry that was written at the other end
 abbrev pub learnt_of_write : Writing → LearntEntries
 learnt_of_write p = record { here = learnt_here p; other = learnt_far (answered_job p) p.other }
 
--- what a session is told where there is no entry to learn, here or at the other end
+-- what a session learns where there is no entry to learn, here or at the other end
 abbrev pub nothing_learnt : LearntEntries
 nothing_learnt = record { here = None; other = None }
 
--- what is told with the reply of a plan: of a write that was carried out, both
+-- what is learnt with the reply of a plan: of a write that was carried out, both
 abbrev pub learnt_with : Reply → HeldPlan → LearntEntries
 learnt_with (Called reply) (Write p) = learnt_of_write p
 learnt_with (Called reply) (Read p) = nothing_learnt

@@ -116,7 +116,7 @@ abbrev pub with_notes : Committed → CommitAnswer
 with_notes c = record { committed = c; relay = option_map (λ _. c.wrote.note) c.passed; spare = c.wrote.note }
 
 -- `commit`: by one carry from its follower, or by two, where it passes a leader on the way, the write comes to the leader that writes, and the followers
--- are told. The plan keeps notes of the log for the way back
+-- are notified. The plan keeps notes of the log for the way back
 pub record CommitsHeld (led : LedBy) (p : Writing) (old : World) (q : Writing) (new : World) : Type 0 where
   pub committed : Committed
   pub leader : committed.leader ≡ led.leader
@@ -184,7 +184,7 @@ pub record RelaysHeld (s : Settings) (p : Writing) (old : World) (q : Writing) (
   pub rest : RelaysAlone old new
   pub then : q ≡ after_stage p (came.Relay (Ok tt)) (hops_between old.link new.link)
 
--- `relay` fails on its way: the write stands, at the position that the reply tells where there is an entry
+-- `relay` fails on its way: the write stands, at the position that the reply says where there is an entry
 pub record LosesRelay (p : Writing) (old : World) (q : Writing) (new : World) : Type 0 where
   pub committed : Committed
   pub answered : p.committed ≡ Some committed
@@ -206,7 +206,7 @@ pub record AppliesHeld (s : Settings) (p : Writing) (old : World) (q : Writing) 
   pub rest : AppliesAlone old new
   pub then : q ≡ after_stage p (came.Apply (Ok tt)) (hops_between old.link new.link)
 
--- `apply` fails on the way back: the write stands, at the position that the reply tells where there is an entry
+-- `apply` fails on the way back: the write stands, at the position that the reply says where there is an entry
 pub record LosesWayBack (p : Writing) (old : World) (q : Writing) (new : World) : Type 0 where
   pub committed : Committed
   pub answered : p.committed ≡ Some committed

@@ -50,15 +50,15 @@ pub record IsBegunRead (p : Reading) : Type 0 where
   pub store : p.store ≡ false
 
 -- the hops of an answer are the carries between the two scenes, and its `store` says whether a keeper was called
-pub record TellsCost (reply : ReadReply) (old new : World) : Type 0 where
+pub record SaysCost (reply : ReadReply) (old new : World) : Type 0 where
   pub hops : reply.hops ≡ hops_between old.link new.link
   pub store : reply.store ≡ was_called old.keepers new.keepers
 
--- a read that does all of its stages: an answer tells what they took, and is legal in the log as it is at their end; the read is for the session that
+-- a read that does all of its stages: an answer says what they took, and is legal in the log as it is at their end; the read is for the session that
 -- it was begun for; and no table and no message changes
 pub record WholeRead (rules : Rules) (p : Reading) (old : World) (q : HeldPlan) (new : World) : Type 0 where
   pub cost : IsBegunRead p → CarriesOut rules (Read p) old q new → (reply : ReadReply) → IsOver q (Called (called.Read reply))
-      → TellsCost reply old new
+      → SaysCost reply old new
   pub tables : CarriesOut rules (Read p) old q new → KeepsTables rules.tells old.keepers new.keepers
   pub inboxes : CarriesOut rules (Read p) old q new → new.inboxes ≡ old.inboxes
   pub legal : p.at ≡ Looking → CarriesOut rules (Read p) old q new → (r : Reading) → q ≡ Read r → EndsLegally rules.tells rules.settings r new
@@ -102,7 +102,7 @@ pub record WholeWrite (rules : Rules) (p : Writing) (old : World) (q : HeldPlan)
 abbrev pub HasOtherEnds : Settings → Tables → Entry → Type 0
 HasOtherEnds s tables e = All (λ u. HasStamp (log_of (stores_in s tables).logs (shard_of u.0)) u) (job_of (types_of s.schema) e)
 
--- a write that does all of its stages, over keepers that tell their tables: where its Ok reply tells the inverse as written, the other end has it
+-- a write that does all of its stages, over keepers that tell their tables: where its Ok reply says the inverse is written, the other end has it
 pub record WrittenIsThere (s : Settings) (p : Writing) (old : World) (q : HeldPlan) (new : World) : Type 0 where
   pub there : HaveMasterRegions s → IsBegunWrite p → IsWriteUnderWay true s old.keepers.told old.fleet p
       → IsConsistent true s old.keepers.told old.fleet → CarriesOut (rules_of true s) (Write p) old q new

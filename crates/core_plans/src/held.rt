@@ -17,22 +17,22 @@ pub enum HeldPlan {
     Write(WritePlan),
 }
 
-/// What a session is told of a write: its own entry, and the one that it wrote at the other end.
+/// What a session learns of a write: its own entry, and the one that it wrote at the other end.
 #[derive(Drop)]
 pub struct LearntEntries {
     pub here: Option<LearntEntry>,
     pub other: Option<LearntEntry>,
 }
 
-/// What comes of a plan that is over: its reply, and what its session is told with it.
+/// What comes of a plan that is over: its reply, and what its session learns with it.
 #[derive(Drop)]
 pub struct EndedPlan {
     pub reply: Reply,
-    pub told: LearntEntries,
+    pub learnt: LearntEntries,
 }
 
 impl LearntEntries {
-    /// Nothing is told.
+    /// Nothing is learnt.
     fn none() -> LearntEntries
         ensures { result ≡ nothing_learnt }
     {
@@ -84,7 +84,7 @@ impl HeldPlan {
     {
         match self {
             HeldPlan::Read(plan) => plan.next().name(),
-            HeldPlan::Write(plan) => plan.next().told(),
+            HeldPlan::Write(plan) => plan.next().said(),
         }
     }
 
@@ -99,16 +99,16 @@ impl HeldPlan {
         }
     }
 
-    /// The reply of a plan that is over, and what is told with it: what a write that was carried out wrote at both ends.
+    /// The reply of a plan that is over, and what is learnt with it: what a write that was carried out wrote at both ends.
     pub fn finish(self) -> EndedPlan
         requires { next_stage self ≡ None }
         ensures over { IsOver self result.reply }
-        ensures told { result.told ≡ learnt_with result.reply self }
+        ensures learnt { result.learnt ≡ learnt_with result.reply self }
     {
         match self {
             HeldPlan::Read(plan) => EndedPlan {
                 reply: plan.finish(),
-                told: LearntEntries::none(),
+                learnt: LearntEntries::none(),
             },
             HeldPlan::Write(plan) => {
                 let shard = plan.write().shard();
@@ -117,11 +117,11 @@ impl HeldPlan {
                     committed,
                     other,
                 } = plan.into_parts();
-                let told = match &reply {
+                let learnt = match &reply {
                     Reply::Called(_) => LearntEntries::of(shard, committed, other),
                     _ => LearntEntries::none(),
                 };
-                EndedPlan { reply, told }
+                EndedPlan { reply, learnt }
             }
         }
     }

@@ -32,21 +32,21 @@ pub fn answers_are_learnt()
     ensures { (rules : Rules) (p q : Reading) (old new : World) → AnswersAreLearnt rules p old q new }
 {}
 
-/// An answer of a read that does all of its stages tells exactly the carries that they took, and whether they called a keeper, and is legal in
+/// An answer of a read that does all of its stages says exactly the carries that they took, and whether they called a keeper, and is legal in
 /// the log as it is at their end. Such a read changes no table and no message.
 #[tactic(auto, using(crate::proofs::WholeReads::whole_reads))]
 pub fn whole_reads()
     ensures { (rules : Rules) (p : Reading) (old : World) (q : AnyPlan) (new : World) → WholeRead rules p old q new }
 {}
 
-/// An Ok reply of a write that does all of its stages tells exactly the carries that they took: two, or four where it passes a leader, and two more
+/// An Ok reply of a write that does all of its stages says exactly the carries that they took: two, or four where it passes a leader, and two more
 /// at most for its other end. Such a write that is refused as out of memory has written nothing.
 #[tactic(auto, using(crate::proofs::WholeWrites::whole_writes))]
 pub fn whole_writes()
     ensures { (rules : Rules) (p : Writing) (old : World) (q : AnyPlan) (new : World) → WholeWrite rules p old q new }
 {}
 
-/// Where the Ok reply of a write that does all of its stages tells its inverse as written, each record that its entry owes to another shard
+/// Where the Ok reply of a write that does all of its stages says its inverse is written, each record that its entry owes to another shard
 /// is there, or a later one.
 #[tactic(auto, using(crate::proofs::InverseThere::written_is_there))]
 pub fn written_is_there()

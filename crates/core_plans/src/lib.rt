@@ -18,8 +18,8 @@
 //! session is to learn: a write at the position of its entry, and a read with its ask; and no other stage answers a read.
 //!
 //! A plan that is carried out whole does all of its stages, one after another, with nothing between them. Its reply
-//! then tells exactly the carries that they took, and of a read whether a keeper was called; such a read is legal in the log as it is at their end,
-//! and changes no table and no message; where a write tells its inverse as written, the other end has it; a write that is
+//! then says exactly the carries that they took, and of a read whether a keeper was called; such a read is legal in the log as it is at their end,
+//! and changes no table and no message; where a write says its inverse is written, the other end has it; a write that is
 //! refused as out of memory has written nothing; and where its follower is up, a plan finds each node up that it needs, and is refused
 //! as `no_server` only as a write for which no leader could be chosen when it began.
 //!

@@ -147,7 +147,7 @@ impl HeldPlans {
     }
 
     /// Ends the plan of that number in place of a stage that may be its last, since there is no memory for what its session is to learn. A write
-    /// stands, at the position that its reply tells, and of a read the ask ends; nothing else changes but the plan, which stays. Takes no memory.
+    /// stands, at the position that its reply says, and of a read the ask ends; nothing else changes but the plan, which stays. Takes no memory.
     pub fn give_up<K: Keeper, L: Link>(
         &mut self,
         nodes: &mut Nodes,

@@ -61,7 +61,7 @@ pub fn carry_write<K: Keeper, L: Link>(
         (world nodes.old (K.state keepers.old) (L.shown link.old))
         (world nodes.new (K.state keepers.new) (L.shown link.new)) }
 {
-    while plan.next().told().is_some() {
+    while plan.next().said().is_some() {
         write_stage(nodes, config, keepers, link, plan);
     }
 }

@@ -79,7 +79,7 @@ fn end_stage<K: Keeper>(nodes: &mut Nodes, config: &Config, keepers: &mut K, pla
     plan.take(WriteResult::End(result), 0);
 }
 
-/// The reply that there is no memory for what the session of a write is to learn: the write stands, at the position that it tells.
+/// The reply that there is no memory for what the session of a write is to learn: the write stands, at the position that it says.
 fn out_of_memory_back(plan: &WritePlan) -> Reply
     ensures { result ≡ Reply.Refused (Refusal.Memory (entry_position (answered_entry plan.now))) }
 {

@@ -54,9 +54,9 @@ use Rattle.core_repairs.specs.Repairs.{FailsAs, FailsToMerge, FindsFirst, FindsO
 use Rattle.core_repairs.specs.Repairs.{LeavesRest, OnlyAsks, RunsJob, StopsRepair, NotifiesOfRepair}
 use Rattle.core_repairs.specs.Repairs.{notified_of_repair, refused_for}
 
--- ---- who is told
+-- ---- who is notified
 
--- the followers and then the leader are told
+-- the followers and then the leader are notified
 pub notified_repair : (states : NodeStates) (shard : ℕ) (wrote : Option Entry) (e : Entry) (note again : View) (old mid new : Inboxes) → wrote ≡ Some e
     → again ≡ note → Sends (notified_of states (master_region states shard) shard) (entry_message shard e note) old mid
     → Sends (notified_besides states shard) (entry_message shard e again) mid new → NotifiesOfRepair states shard wrote old new
@@ -240,7 +240,7 @@ module _ (tells : Bool) (s : Settings) (was : Nodes) (before after : KeeperState
     link = link;
   }
 
--- those who see a shard's log were told of what was written there
+-- those who see a shard's log were notified of what was written there
 pub posts_notified : (tells : Bool) (s : Settings) (was new : Nodes) (keepers : KeeperState) (link : LinkShown) (shard : ℕ) (wrote : Option Entry)
     → CanPost tells s (world was keepers link) → HaveMasterRegions s → shard < s.shards → IfSome wrote (StandsIn (pens_of was.fleet.stores shard))
     → NotifiesOfRepair was.topology shard wrote was.mail new.mail → AreInboxesOf s (pens_of was.fleet.stores) new.mail

@@ -108,7 +108,7 @@ module _ (tells : Bool) (s : Settings) (shard : ℕ) (old new : World) where
   of_repair (Memory position) is = tt
   of_repair r is = absurd is
 
-  -- a fault is told only where its count rose
+  -- a fault is said only where its count rose
   has_cause : (start : World) (r : Refusal) → IsLaterLink start.link old.link → IsLater start.keepers old.keepers
       → IsNotRepaired tells s shard r old new → FailureHasCause r start new
   has_cause start (OfStore (refused.KeeperFault count)) link keepers is =

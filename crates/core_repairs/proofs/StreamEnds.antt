@@ -208,7 +208,7 @@ module _ (tells : Bool) (s : Settings) (at : StoreName) (old new : World) where
   refused_same (refusal.Session other) is = absurd is
   refused_same (refusal.Name other) is = absurd is
 
-  -- a fault is told only where its count rose
+  -- a fault is said only where its count rose
   refused_cause : (start : World) (r : Refusal) (given : SettleStop) → IsLaterLink start.link old.link → IsLater start.keepers old.keepers
       → StopsAsRefused at.shard r given → RefusesStream tells s (asks_next at) r old new → StreamStopHasCause given start new
   refused_cause start (refusal.Store (store.KeeperFault count)) given link keepers stops is =

@@ -37,13 +37,13 @@ use Rattle.core_steps.specs.World.{World, outside_of}
 use Rattle.core_repairs.specs.Stops.{StopsAsRefused}
 use Rattle.core_repairs.specs.declared.repairs.Ran.{Ran}
 
--- ---- who is told
+-- ---- who is notified
 
 -- of an entry that a repair wrote on a shard: the followers of the master's region as of any other, and then the leader that it prefers, where that is up
 abbrev pub notified_of_repair : NodeStates → ℕ → List NodeName
 notified_of_repair states shard = notified_of states (master_region states shard) shard ++ notified_besides states shard
 
--- the nodes that are told of a repair get a message of its entry, where there is one
+-- the nodes that are notified of a repair get a message of its entry, where there is one
 abbrev pub NotifiesOfRepair : NodeStates → ℕ → Option Entry → Inboxes → Inboxes → Type 0
 NotifiesOfRepair states shard None old new = new ≡ old
 NotifiesOfRepair states shard (Some e) old new = (note : View) × Sends (notified_of_repair states shard) (entry_message shard e note) old new
@@ -70,14 +70,14 @@ pub record FindsOpenJob (tells : Bool) (s : Settings) (shard : ℕ) (job : Job) 
   pub first : WhereTold tells (IsFirstJobOf s new.told (job_on shard job))
   pub tables : KeepsTables tells old new
 
--- a shard's first job was run: it was merged and then ended, and those who see its records are told of what was written
+-- a shard's first job was run: it was merged and then ended, and those who see its records are notified of what was written
 pub record IsRepaired (tells : Bool) (s : Settings) (shard : ℕ) (ran : Ran) (old new : World) : Type 0 where
   pub found : KeeperState
   pub merged : KeeperState
   pub finds : FindsOpenJob tells s shard ran.job old.keepers found
   pub merges : MergesFar tells s (job_on shard ran.job) (Ok (record { wrote = ran.wrote })) (outside found old.link) (outside merged new.link)
   pub ends : WhereTold tells (EndsOwed s merged.told new.keepers.told (job_on shard ran.job))
-  pub told : NotifiesOfRepair old.states (far_shard ran.job) ran.wrote old.inboxes new.inboxes
+  pub notifies : NotifiesOfRepair old.states (far_shard ran.job) ran.wrote old.inboxes new.inboxes
   pub caches : LeavesCaches old new
 
 -- ---- the stages of a repair
@@ -212,7 +212,7 @@ pub record RunsAll (tells : Bool) (s : Settings) (old new : World) : Type 0 wher
   pub settles : WhereTold tells (SettlesLogs s old.keepers.told new.keepers.told)
   pub none : WhereTold tells (HaveNoJobs (stores_in s new.keepers.told))
 
--- a fault is told only where its count rose
+-- a fault is said only where its count rose
 abbrev pub FailureHasCause : Refusal → World → World → Type 0
 FailureHasCause (Store (refused.KeeperFault count)) old new = Rose old.keepers.faults new.keepers.faults
 FailureHasCause (Store (refused.LinkFault count when)) old new = Rose old.link.faults new.link.faults

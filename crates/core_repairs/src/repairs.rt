@@ -50,7 +50,7 @@ fn refused_for(refusal: RepairRefusal, keeper_faults: u64, link_faults: u64) -> 
     }
 }
 
-/// A note of a shard's log, taken before a repair writes there, for those who are to be told of it.
+/// A note of a shard's log, taken before a repair writes there, for those who are to be notified of it.
 fn note_before(fleet: &mut Fleet, config: &Config, shard: u16) -> Result<Note, Refusal>
     requires stores { AreStores config.now (store_count config.now) fleet.old.stores }
     requires here { shard < config.now.shards }
@@ -64,7 +64,7 @@ fn note_before(fleet: &mut Fleet, config: &Config, shard: u16) -> Result<Note, R
     }
 }
 
-/// Tells those who see a shard's log of an entry that a repair wrote there, where there is one, with a note of that log, which is renewed for it.
+/// Notifies those who see a shard's log of an entry that a repair wrote there, where there is one, with a note of that log, which is renewed for it.
 fn notify_of_repair(
     nodes: &mut Nodes,
     config: &Config,
@@ -79,7 +79,7 @@ fn notify_of_repair(
     requires stands { IfSome wrote.now (StandsIn (pens_of nodes.old.fleet.stores shard)) }
     requires lies { IfSome wrote.now (LiesOn (pens_of nodes.old.fleet.stores shard) shard) }
     requires inboxes { AreInboxesOf config.now (pens_of nodes.old.fleet.stores) nodes.old.mail }
-    ensures told { NotifiesOfRepair nodes.old.topology shard wrote.now nodes.old.mail nodes.new.mail }
+    ensures notifies { NotifiesOfRepair nodes.old.topology shard wrote.now nodes.old.mail nodes.new.mail }
     ensures inboxes { AreInboxesOf config.now (pens_of nodes.old.fleet.stores) nodes.new.mail }
     ensures rest { nodes.new ≡ record nodes.old { mail = nodes.new.mail } }
 {
@@ -156,11 +156,11 @@ fn merge_and_end<K: Keeper, L: Link>(
 }
 
 /// Runs the first open job of a shard, where one is open: it is carried to the store of the shard on which its records lie, merged there, and ended
-/// once the answer came back. Of a new entry the followers of that shard's master region are told as after a write, and then the leader that the region
+/// once the answer came back. Of a new entry the followers of that shard's master region are notified as after a write, and then the leader that the region
 /// prefers, where it is up. The note of the log that their messages carry was taken before the merge, so that a message is lost only as one of a write is.
 /// No leader takes part.
 ///
-/// Whatever fails leaves the job open, and at most merged, and nobody is told; without memory for that note nothing is done. `LinkFault` comes
+/// Whatever fails leaves the job open, and at most merged, and nobody is notified; without memory for that note nothing is done. `LinkFault` comes
 /// only where the link's count of faults rose, `KeeperFault` only where the keepers' did, and `LogFull` where the other shard's log has no room for the
 /// entry; `NoServer` comes where that shard isn't configured, with the region of the job's own master. Two carries, two calls of the keeper and what a
 /// merge costs.

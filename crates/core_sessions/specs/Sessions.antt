@@ -1,4 +1,4 @@
--- Open sessions, in the order of their numbers, and what they were told of.
+-- Open sessions, in the order of their numbers, and what they have learnt.
 use Rattle.std.specs.Prelude.{ℕ, ◌≡◌, ◌≤◌, Bool, List, [], ◌∷◌, ◌++◌, ◌==◌, IfSome, Option, Some, filter, find, map, nat_lt, if◌then◌else◌}
 use Rattle.std.specs.List.{list_any}
 use Rattle.session_pass.specs.Floors.{Learns, LearnsTouches, floor_at, learnt_touches}
@@ -47,7 +47,7 @@ is_open sessions number = list_any (λ s. s.session == number) sessions
 abbrev pub session_at : List Session → ℕ → Option Session
 session_at sessions number = find (λ s. s.session == number) sessions
 
--- a session that was told of nothing
+-- a session that has learnt nothing
 abbrev pub new_session : OpenSession → List View → Session
 new_session place notes = record { session = place.session; region = place.region; tier = place.tier; floors = []; notes = notes }
 
@@ -63,7 +63,7 @@ with_changed new sessions = map (λ s. if s.session == new.session then new else
 abbrev pub most_sessions : ℕ
 most_sessions = 1024
 
--- ---- what a session is told
+-- ---- what a session learns
 
 -- the session after an entry of the shard's log was learnt, with a note
 pub record LearnsWith (shard : ℕ) (entry : Entry) (note : View) (old new : Session) : Type 0 where

@@ -1,4 +1,4 @@
--- Who is told of what was written, and that the stores of their regions have come to it.
+-- Who is notified of what was written, and that the stores of their regions have come to it.
 use Rattle.std.proofs.Common.{◌≡◌, ℕ, ◌≤◌, ◌<◌, ◌%◌, ◌++◌, Bool, true, false, List, [], ◌∷◌, Option, Some, None, IfSome, ap, sym, subst, ◌∙◌, arith, refl}
 use Rattle.std.proofs.lemmas.Bool.{ltb-true}
 use Rattle.std.proofs.lemmas.List.Elements.{Contains-append_left}
@@ -96,12 +96,12 @@ sends_named [] m old new same = ap node_names same
 sends_named (name ∷ names) m old new sends =
     sends_named names m sends.0 new sends.2 ∙ names_kept (IsSent m) name old sends.0 sends.1
 
--- some nodes are told, and then others
+-- some nodes are notified, and then others
 pub sends_both : (a b : List NodeName) (m : SeenMaint) (old mid new : Inboxes) → Sends a m old mid → Sends b m mid new → Sends (a ++ b) m old new
 sends_both [] b m old mid new one two = subst (λ x. Sends b m x new) one two
 sends_both (name ∷ a) b m old mid new one two = (one.0, one.1, sends_both a b m one.0 mid new one.2 two)
 
--- the preferred leader is told where it is up
+-- the preferred leader is notified where it is up
 pub besides_up : (states : NodeStates) (shard region : ℕ) (leader : NodeName) (m : SeenMaint) (old new : Inboxes) → region ≡ master_region states shard
     → leader ≡ preferred_leader states region shard → is_up states leader ≡ true → Sends (leader ∷ []) m old new
     → Sends (notified_besides states shard) m old new
@@ -110,7 +110,7 @@ besides_up states shard region leader m old new region_is is up sends =
     let alone : filter (is_up states) (leader ∷ []) ≡ leader ∷ [] = ap (λ b. if b then leader ∷ [] else []) up in
     subst (λ n. Sends (filter (is_up states) (n ∷ [])) m old new) leads (subst (λ l. Sends l m old new) (sym alone) sends)
 
--- the followers are told, and the leader that another stands in for
+-- the followers are notified, and the leader that another stands in for
 pub notified_more : (s : Settings) (states : NodeStates) (shard region : ℕ) (leader : NodeName) (m : SeenMaint) (old mid new : Inboxes)
     → states.regions ≡ regions_of s → region ≡ master_region states shard → serves_in_turn (regions_of s) leader shard ≡ false
     → Sends (notified_of states region shard) m old mid → Sends (notified_besides states shard) m mid new → Sends (notified_by states leader shard) m old new

@@ -119,7 +119,7 @@ legal_in_log tells s tables stores shard types query floor answer version region
 
 -- ---- what a store gives in the place of a leader
 
--- what was read is right with no floor, and so at the read's floor, or is told as behind
+-- what was read is right with no floor, and so at the read's floor, or is answered as behind
 pub right_at_floor : (types : EdgeTypes) (pens : Pens) (query : Query) (floor : ℕ) (out : ReadOut)
     → IsGivenAnswer types pens (wanted query 0) (given_of out) → IsGivenAnswer types pens (wanted query floor) (at_floor floor out)
 right_at_floor types pens query floor (store.Filled fill) is = elim (cases_Bool (nat_lt fill.version floor)) [

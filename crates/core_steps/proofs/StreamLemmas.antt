@@ -60,7 +60,7 @@ module _ (at : StoreName) (states : NodeStates) where
       let there : DeliversAt types m dropped (region_leader states at) old new = subst (λ n. DeliversAt types m dropped n old new) is delivers in
       ((dropped, there.0), there.1)
 
-  -- of what it was told, where it is up
+  -- of what it was notified of, where it is up
   pub processes_entry : (e : Entry) (note : View) (message : Option SeenMaint) (old new : Fleet)
       → IsLeaderMessage states at (entry_message at.shard e note) message → ProcessesMessage (region_leader states at) message old new
       → LeaderProcesses states at e old new

@@ -35,7 +35,7 @@ why_open refusal = why.Memory
 abbrev pub left_open_as : StoreRefusal → LeftOpen
 left_open_as refusal = Scheduled (why_open refusal) None
 
--- what a merge is answered, over the carry back: what was written is told also where its answer was lost, and a refusal stands in any case
+-- what a merge is answered, over the carry back: what was written is said also where its answer was lost, and a refusal stands in any case
 abbrev pub merge_answer : Result Wrote StoreRefusal → Result ⊤ LinkFailed → Result Wrote LeftOpen
 merge_answer (Ok wrote) (Ok done) = Ok wrote
 merge_answer (Ok wrote) (Err lost) = Err (Scheduled why.LinkFault (Some wrote))

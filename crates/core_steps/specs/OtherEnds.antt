@@ -77,7 +77,7 @@ pub record TakesMerge (tells : Bool) (s : Settings) (way : JobWay) (wrote : Wrot
   pub writes : WhereTold tells (WritesDueEntry s way.job wrote.entry old.keepers new.keepers)
   pub leader : LeaderTakes s way.merging (far_shard way.job.job) wrote.entry old.fleet new.fleet
   pub followers : new.fleet.followers ≡ old.fleet.followers
-  pub told : NotifiesOfNew old.states way.merging (far_shard way.job.job) wrote.entry old.inboxes new.inboxes
+  pub notifies : NotifiesOfNew old.states way.merging (far_shard way.job.job) wrote.entry old.inboxes new.inboxes
   pub states : new.states ≡ old.states
 
 -- why a job was not merged, or its answer was lost, and what was written all the same
@@ -137,7 +137,7 @@ EndsOver tells s j (Err (Scheduled KeeperFault None)) old new = Rose old.keepers
 EndsOver tells s j (Err (Scheduled Memory None)) old new = KeepsTables tells old.keepers new.keepers × ChangesKeepers old new
 EndsOver tells s j (Err left) old new = ⊥
 
--- ---- what is told of both ends
+-- ---- what is learnt of both ends
 
 -- the entry that was written on a shard, with what was seen of its log
 abbrev pub learnt_entry_of : ℕ → Wrote → Option LearntEntry

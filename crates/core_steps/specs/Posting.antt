@@ -25,7 +25,7 @@ pub record LeaderTakes (s : Settings) (leader : NodeName) (shard : ℕ) (entry :
   pub note : View
   pub takes : ChangesNode leader (TakesWritten (types_of s.schema) shard (taken_by (serves s leader shard) entry) note) old.leaders new.leaders
 
--- of an entry that the log gained, by that leader, the followers of the master's region are told, and the leader that it stands in for; and of no other
+-- of an entry that the log gained, by that leader, the followers of the master's region are notified, and the leader that it stands in for; and of no other
 abbrev pub NotifiesOfNew : NodeStates → NodeName → ℕ → Option Entry → Inboxes → Inboxes → Type 0
 NotifiesOfNew states leader shard None old new = new ≡ old
 NotifiesOfNew states leader shard (Some e) old new = (note : View) × Sends (notified_by states leader shard) (entry_message shard e note) old new

@@ -51,7 +51,7 @@ AskFails refusal old new = ⊥
 
 -- the carry from one node to the other failed, as the refusal says, and nothing else changed
 pub record LosesQuestion (from to : NodeName) (refusal : Refusal) (old new : World) : Type 0 where
-  pub told : refusal ≡ Store (LinkFault new.link.faults Before)
+  pub said : refusal ≡ Store (LinkFault new.link.faults Before)
   pub carry : FailsCarry from to old.link new.link
   pub rest : new ≡ record old { link = new.link }
 
@@ -63,7 +63,7 @@ pub record GivesNothing (refusal : Refusal) (old new : World) : Type 0 where
 
 -- the carry back of an answer failed, as the refusal says
 pub record LosesAnswer (from to : NodeName) (refusal : Refusal) (old new : World) : Type 0 where
-  pub told : refusal ≡ Store (LinkFault new.link.faults Before)
+  pub said : refusal ≡ Store (LinkFault new.link.faults Before)
   pub carry : FailsCarry from to (after_carry old.link) new.link
 
 -- ---- who is asked: a leader, or its region's store

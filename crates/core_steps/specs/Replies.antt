@@ -1,4 +1,4 @@
--- How a store's refusal is told, and what is replied to the read of a refill.
+-- How a store's refusal is said, and what is replied to the read of a refill.
 use Rattle.std.specs.Prelude.{ℕ}
 use Rattle.replies.specs.declared.calls.CallReply.TheVariants as called
 use Rattle.replies.specs.declared.nodes.CacheReply.TheVariants.{Refilled}
@@ -11,7 +11,7 @@ use Rattle.replies.specs.declared.reply.Reply.TheVariants.{Called, Node}
 use Rattle.shard_tables.specs.declared.refusal.StoreRefusal.{StoreRefusal}
 use Rattle.shard_tables.specs.declared.refusal.StoreRefusal.TheVariants as store
 
--- how a store's refusal is told, where the keepers have counted so many faults
+-- how a store's refusal is said, where the keepers have counted so many faults
 abbrev pub refused_as : ℕ → StoreRefusal → Refusal
 refused_as faults store.KeeperFault = Store (KeeperFault faults)
 refused_as faults store.OutOfMemory = Memory 0

@@ -113,7 +113,7 @@ pub record IsCommitted (tells : Bool) (s : Settings) (sent : SentWrite) (wrote :
   pub commits : CommitsCall tells s sent.call (given_by_log wrote.retry wrote.entry) old.keepers new.keepers
   pub leader : LeaderTakes s sent.route.leader (write_shard sent.call.write) wrote.entry old.fleet new.fleet
   pub followers : new.fleet.followers ≡ old.fleet.followers
-  pub told : NotifiesOfNew old.states sent.route.leader (write_shard sent.call.write) (new_entry wrote.retry wrote.entry) old.inboxes new.inboxes
+  pub notifies : NotifiesOfNew old.states sent.route.leader (write_shard sent.call.write) (new_entry wrote.retry wrote.entry) old.inboxes new.inboxes
   pub states : new.states ≡ old.states
   pub link : new.link ≡ after_carry old.link
   -- the job in its answer is that of its new entry, or the one that is still open

@@ -130,7 +130,7 @@ impl Nodes {
     }
 
     /// The stage `ask` of a read: its question is carried to a leader, which answers of an item of its own or of its region's store, or where no leader
-    /// may be asked to that store itself, and what it gives is carried back. An answer below the read's floor is told as `Behind`.
+    /// may be asked to that store itself, and what it gives is carried back. An answer below the read's floor is answered as `Behind`.
     ///
     /// `LinkFault` comes only where the link's count of faults rose at one of the two carries, `KeeperFault` only where the keepers' rose,
     /// and `Memory` where there was none. Costs what `Leader::answer` or `StoreNode::read` does.

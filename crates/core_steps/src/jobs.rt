@@ -136,7 +136,7 @@ impl Nodes {
         self.topology.leader((by.region, by.tier), region, shard)
     }
 
-    /// Merges the job at a leader of the shard on which its records lie. Of a new entry those who see the shard's log are told.
+    /// Merges the job at a leader of the shard on which its records lie. Of a new entry those who see the shard's log are notified.
     fn merge_at<K: Keeper>(
         &mut self,
         config: &Config,
@@ -172,12 +172,12 @@ impl Nodes {
     /// The stage `inverse`: a job of a shard is carried from the leader that committed it to one of the master's region of the shard on which its records
     /// lie, which merges it, and takes what was written unless it stands in for another, and the answer is carried back, also that of a merge that was
     /// refused. It is the leader that the master's region prefers, or the next one round about, that is up and that the session's tier doesn't suspect.
-    /// Where both are one node nothing is carried. Of a new entry those who see the log are told as after a write.
+    /// Where both are one node nothing is carried. Of a new entry those who see the log are notified as after a write.
     ///
     /// The job stays open. Whatever fails leaves it so: `LinkFault` only where the link's count of faults rose, `KeeperFault` only where the keepers'
     /// did, `LogFull` where the other shard's log has no room for the entry, `NoServer` where that shard isn't configured or no leader can be chosen for it,
     /// `Memory` where there was none.
-    /// What was written although its answer was lost is told. Costs what `Leader::merge` does, and a message for each tier of the region.
+    /// What was written although its answer was lost is said. Costs what `Leader::merge` does, and a message for each tier of the region.
     pub fn merge_over<K: Keeper, L: Link>(
         &mut self,
         config: &Config,

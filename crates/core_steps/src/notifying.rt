@@ -18,7 +18,7 @@ use tao_base::{Entry, StoreName};
 use topology::Config;
 
 impl Nodes {
-    /// Tells the leader that the master's region prefers for a shard, where it is up, of an entry that another wrote there.
+    /// Notifies the leader that the master's region prefers for a shard, where it is up, of an entry that another wrote there.
     pub fn notify_besides(&mut self, config: &Config, shard: u16, entry: &Entry, note: &mut Note)
         requires here { shard < config.now.shards }
         requires own { self.old.topology.regions ≡ regions_of config.now }
@@ -41,7 +41,7 @@ impl Nodes {
         }
     }
 
-    /// Tells the followers of the master's region that serve a shard, and are up, of an entry that was written there.
+    /// Notifies the followers of the master's region that serve a shard, and are up, of an entry that was written there.
     pub fn notify_followers(&mut self, config: &Config, shard: u16, entry: &Entry, note: &mut Note)
         requires here { shard < config.now.shards }
         requires own { self.old.topology.regions ≡ regions_of config.now }
@@ -64,7 +64,7 @@ impl Nodes {
         self.mail.send(&around, &self.topology, at, entry, note);
     }
 
-    /// Tells those who see a shard's log of an entry that a leader wrote there: the followers of the master's region, and the leader that it
+    /// Notifies those who see a shard's log of an entry that a leader wrote there: the followers of the master's region, and the leader that it
     /// prefers where another wrote.
     fn notify_each(
         &mut self,
@@ -91,7 +91,7 @@ impl Nodes {
         }
     }
 
-    /// Tells those who see a shard's log of the entry that a leader wrote there, where there is one.
+    /// Notifies those who see a shard's log of the entry that a leader wrote there, where there is one.
     pub(crate) fn notify_of(
         &mut self,
         config: &Config,
@@ -104,7 +104,7 @@ impl Nodes {
         requires names { node_names self.old.mail ≡ cache_names config.now }
         requires stands { IfSome wrote.old.entry (StandsIn wrote.old.note) }
         requires lies { IfSome wrote.old.entry (LiesOn wrote.old.note shard) }
-        ensures told { NotifiesOfNew self.old.topology leader shard wrote.old.entry self.old.mail self.new.mail }
+        ensures notifies { NotifiesOfNew self.old.topology leader shard wrote.old.entry self.old.mail self.new.mail }
         ensures rest { self.new ≡ record self.old { mail = self.new.mail } }
         ensures same { wrote.new ≡ wrote.old }
         ensures of { (pens : Pens) → IsSeen pens shard wrote.old.note → AreInboxesOf config.now pens self.old.mail
@@ -115,7 +115,7 @@ impl Nodes {
         }
     }
 
-    /// Tells them of an entry that is new.
+    /// Notifies them of an entry that is new.
     pub(crate) fn notify_of_new(
         &mut self,
         config: &Config,
@@ -128,7 +128,7 @@ impl Nodes {
         requires names { node_names self.old.mail ≡ cache_names config.now }
         requires stands { IfSome wrote.old.entry (StandsIn wrote.old.note) }
         requires lies { IfSome wrote.old.entry (LiesOn wrote.old.note shard) }
-        ensures told { NotifiesOfNew self.old.topology leader shard (new_entry wrote.old.retry wrote.old.entry) self.old.mail self.new.mail }
+        ensures notifies { NotifiesOfNew self.old.topology leader shard (new_entry wrote.old.retry wrote.old.entry) self.old.mail self.new.mail }
         ensures rest { self.new ≡ record self.old { mail = self.new.mail } }
         ensures same { wrote.new ≡ wrote.old }
         ensures of { (pens : Pens) → IsSeen pens shard wrote.old.note → AreInboxesOf config.now pens self.old.mail

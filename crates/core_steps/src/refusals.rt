@@ -12,7 +12,7 @@ pub fn out_of_memory() -> Reply
     Reply::Refused(Refusal::Memory { position: 0 })
 }
 
-/// How a store's refusal is told, where the keepers have counted so many faults.
+/// How a store's refusal is said, where the keepers have counted so many faults.
 pub fn refused_as(refusal: StoreRefusal, faults: u64) -> Refusal
     ensures { result ≡ refused_as faults refusal }
 {

@@ -109,7 +109,7 @@ impl Nodes {
 
     /// The stage `commit`: the write of a client is carried to a leader of the master's region, which writes to the shard's store. Where it serves
     /// the shard it takes what was written; one that stands in for another stays as it is. Of a new entry each follower of that region that
-    /// serves the shard and is up is told, by a message, and so is the leader that another stands in for.
+    /// serves the shard and is up is notified, by a message, and so is the leader that another stands in for.
     ///
     /// With what was written comes a second note that has seen all of the shard's log, as the first one has, for its way back. It was taken before the
     /// write, so that nothing fails for memory after that.

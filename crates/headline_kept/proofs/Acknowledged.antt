@@ -59,14 +59,14 @@ use Rattle.headline_kept.specs.Standing.{written_at}
 use Rattle.headline_kept.proofs.StageCauses.{RefusedBy, was_unrefused, write_stage_fails}
 use Rattle.headline_kept.proofs.WholeCauses.{Commits, Rests, WriteRuns, committed_entry, moves, stands_when, write_runs}
 
--- ---- what an Ok reply tells
+-- ---- what an Ok reply says
 
-pub told_entry : (retry : Bool) (inverse : InverseEnd) (entry : Option Entry) (position : ℕ) → written_at (written_by retry inverse entry) ≡ Some position
+pub said_entry : (retry : Bool) (inverse : InverseEnd) (entry : Option Entry) (position : ℕ) → written_at (written_by retry inverse entry) ≡ Some position
     → (e : Entry) × (entry ≡ Some e) × (e.position ≡ position)
-told_entry retry inverse None position is = absurd (cc)
-told_entry retry inverse (Some e) position is = (e, refl, cc)
+said_entry retry inverse None position is = absurd (cc)
+said_entry retry inverse (Some e) position is = (e, refl, cc)
 
--- where a write's reply tells a position, it is that of the entry which its commit answered
+-- where a write's reply says a position, it is that of the entry which its commit answered
 acknowledges : (P : Refusal → Type 0) (refused : Option Reply) (committed : Option Committed) (job : OtherEnd) (hops : ℕ) (reply : Reply) (position : ℕ)
     → RefusedBy P refused → reply_by refused committed job hops ≡ Some reply → acknowledged reply ≡ Some position
     → (e : Entry) × (option_and_then (λ (c : Committed). c.wrote.entry) committed ≡ Some e) × (e.position ≡ position)
@@ -78,14 +78,14 @@ acknowledges P (Some own) committed job hops reply position fails is told =
 acknowledges P None None job hops reply position fails is told = absurd (cc)
 acknowledges P None (Some c) job hops reply position fails is told =
     let one = ap (unwrap_or_reply reply) is in
-    told_entry c.wrote.retry (inverse_said (has_other c) job) c.wrote.entry position (subst (λ r. acknowledged r ≡ Some position) (sym one) told)
+    said_entry c.wrote.retry (inverse_said (has_other c) job) c.wrote.entry position (subst (λ r. acknowledged r ≡ Some position) (sym one) told)
   where
     unwrap_or_reply : Reply → Option Reply → Reply
     unwrap_or_reply reply o = unwrap_or o reply
 
--- a refusal tells none
-refused_told : (refusal : Refusal) (ended : Reply) → {position : ℕ} → Some (Refused refusal) ≡ Some ended → acknowledged ended ≡ Some position → ⊥
-refused_told refusal ended {position} is told =
+-- a refusal says none
+refused_said : (refusal : Refusal) (ended : Reply) → {position : ℕ} → Some (Refused refusal) ≡ Some ended → acknowledged ended ≡ Some position → ⊥
+refused_said refusal ended {position} is told =
     let same : Refused refusal ≡ ended = cc in
     let no : None ≡ Some position = subst (λ r. acknowledged r ≡ Some position) (sym same) told in
     absurd (cc)
@@ -125,28 +125,28 @@ way_left (Some j) (Open why) passed back before is = back_left passed back befor
 
 -- ---- replies of plans
 
-numbered_told : (number : ℕ) (ended : Reply) → acknowledged (numbered_reply number ended) ≡ acknowledged ended
-numbered_told number (Called (called.Write reply)) = refl
-numbered_told number (Called (called.Read reply)) = refl
-numbered_told number reply = refl
+numbered_said : (number : ℕ) (ended : Reply) → acknowledged (numbered_reply number ended) ≡ acknowledged ended
+numbered_said number (Called (called.Write reply)) = refl
+numbered_said number (Called (called.Read reply)) = refl
+numbered_said number reply = refl
 
 -- a plan whose line tells a position is over
-record IsToldOver (plan : HeldPlan) (position : ℕ) : Type 0 where
+record IsSaidOver (plan : HeldPlan) (position : ℕ) : Type 0 where
   ended : Reply
   over : IsOver plan ended
-  told : acknowledged ended ≡ Some position
+  said : acknowledged ended ≡ Some position
 
-leaves_told : (asked_word : PlanWord) (by : NumberedPlan) (next : Option Stage) (reply : Reply) (position : ℕ) (old new : Held)
-    → Leaves asked_word by next old reply new → acknowledged reply ≡ Some position → (next ≡ None) × IsToldOver by.plan position
-leaves_told asked_word by (Some stage) reply position old new goes told =
-    let no : None ≡ Some position = subst (λ r. acknowledged r ≡ Some position) goes.told told in
+leaves_said : (asked_word : PlanWord) (by : NumberedPlan) (next : Option Stage) (reply : Reply) (position : ℕ) (old new : Held)
+    → Leaves asked_word by next old reply new → acknowledged reply ≡ Some position → (next ≡ None) × IsSaidOver by.plan position
+leaves_said asked_word by (Some stage) reply position old new goes told =
+    let no : None ≡ Some position = subst (λ r. acknowledged r ≡ Some position) goes.said told in
     absurd (cc)
-leaves_told asked_word by None reply position old new ends told = (
+leaves_said asked_word by None reply position old new ends told = (
   refl,
   record {
     ended = ends.ended;
     over = ends.over;
-    told = sym (numbered_told by.number ends.ended) ∙ subst (λ r. acknowledged r ≡ Some position) ends.told told;
+    said = sym (numbered_said by.number ends.ended) ∙ subst (λ r. acknowledged r ≡ Some position) ends.said told;
   },
 )
 
@@ -175,9 +175,9 @@ module _ (tells : Bool) (old : Moment) (request : Request) (reply : Reply) (new 
   write_stands p none never does =
       runs_stand p does.after (write_runs (rules_of tells s) (world_of old) p regions does.after (world_of new) none never does.carries) does.over
 
-  not_begun_told : (made : CheckedCall) (r : Reply) → acknowledged r ≡ Some position → IsNotBegun old.core.states old.core.sessions made r → ⊥
-  not_begun_told made (Refused refusal) is not = absurd (cc)
-  not_begun_told made r is not = absurd not
+  not_begun_said : (made : CheckedCall) (r : Reply) → acknowledged r ≡ Some position → IsNotBegun old.core.states old.core.sessions made r → ⊥
+  not_begun_said made (Refused refusal) is not = absurd (cc)
+  not_begun_said made r is not = absurd not
 
   call_stands : (made : CheckedCall) (write : AuthoredWrite) → write_of_call made ≡ Some write → AnswersCall tells made old reply new → Stands write
   call_stands (call.Write made) write is (inl goes) =
@@ -186,7 +186,7 @@ module _ (tells : Bool) (old : Moment) (request : Request) (reply : Reply) (new 
       let same : call_of_plan p ≡ write = one_some _ _ is in
       subst Stands same (write_stands p refl refl (subst (λ x. DoesAtOnce tells x old reply new) b.plan_is goes.does))
   call_stands (call.Read made) write is (inl goes) = absurd (cc)
-  call_stands made write is (inr refuses) = absurd (not_begun_told made reply told refuses.refused)
+  call_stands made write is (inr refuses) = absurd (not_begun_said made reply told refuses.refused)
 
   -- ---- a stage of a held write
 
@@ -213,22 +213,22 @@ module _ (tells : Bool) (old : Moment) (request : Request) (reply : Reply) (new 
     by_move q e never (inl rests) entry at over = rests_stand q e rests.committed entry at
     by_move q e never (inr did) entry at over = absurd (commits_left q never did over)
 
-    stage_stands : (q : HeldPlan) → Advances (rules_of tells s) (of.Write p) (world_of old) q (world_of new) → next_stage q ≡ None → IsToldOver q position
+    stage_stands : (q : HeldPlan) → Advances (rules_of tells s) (of.Write p) (world_of old) q (world_of new) → next_stage q ≡ None → IsSaidOver q position
         → Stands (call_of_plan p)
     stage_stands (of.Write q) (inl steps) over so =
         let fails = write_stage_fails (rules_of tells s) p q (world_of old) (world_of new) steps in
-        let ack = acknowledges _ q.refused q.committed q.job q.hops so.ended position fails so.over so.told in
+        let ack = acknowledges _ q.refused q.committed q.job q.hops so.ended position fails so.over so.said in
         by_move q ack.0 (was_unrefused (rules_of tells s) p q (world_of old) (world_of new) steps)
         (moves (rules_of tells s) p q (world_of old) (world_of new) steps) ack.1 ack.2 over
     stage_stands (of.Read q) (inl steps) over so = absurd steps
     stage_stands (of.Write q) (inr without) over so =
-        absurd (refused_told _ so.ended (subst (λ x. IsOver (of.Write x) so.ended) without.gives.0 so.over) so.told)
+        absurd (refused_said _ so.ended (subst (λ x. IsOver (of.Write x) so.ended) without.gives.0 so.over) so.said)
     stage_stands (of.Read q) (inr without) over so = absurd without.gives
 
   -- a write that is advanced
   advance_stands : (number : ℕ) (before : HeldPlan) (q : HeldPlan) (write : AuthoredWrite) → plan_at old.core.plans number ≡ Some before
       → option_and_then write_of_plan (plan_at old.core.plans number) ≡ Some write
-      → Advances (rules_of tells s) before (world_of old) q (world_of new) → next_stage q ≡ None → IsToldOver q position → Stands write
+      → Advances (rules_of tells s) before (world_of old) q (world_of new) → next_stage q ≡ None → IsSaidOver q position → Stands write
   advance_stands number (of.Write p) q write at is steps over so =
       let same : call_of_plan p ≡ write = one_some _ _ (sym (ap (option_and_then write_of_plan) at) ∙ is) in
       let was = stands_when tells s old.keepers.told old.core.fleet p regions core.is_consistent.consistent (core.plans.under_way number (of.Write p) at) in
@@ -239,7 +239,7 @@ module _ (tells : Bool) (old : Moment) (request : Request) (reply : Reply) (new 
 
   -- a write that is held from now on
   begun_stands : (session : Session) (follower : NodeName) (made : CheckedCall) (q : HeldPlan) (write : AuthoredWrite) → write_of_call made ≡ Some write
-      → Advances (rules_of tells s) (begun_plan s session follower made) (world_of old) q (world_of new) → next_stage q ≡ None → IsToldOver q position
+      → Advances (rules_of tells s) (begun_plan s session follower made) (world_of old) q (world_of new) → next_stage q ≡ None → IsSaidOver q position
       → Stands write
   begun_stands session follower (call.Write made) q write is steps over so =
       let p = begun_write made.write (Client made.session made.seq) session.region session.tier follower in
@@ -253,7 +253,7 @@ module _ (tells : Bool) (old : Moment) (request : Request) (reply : Reply) (new 
       let b = goes.begun in
       let own : plan_at goes.added number ≡ Some goes.plan = goes.adds.sets number ∙ rw (eq-eqb number number refl) refl in
       let same : goes.steps.before ≡ goes.plan = one_some _ _ (sym goes.steps.stands ∙ own) in
-      let so = leaves_told word.Hold _ (next_stage goes.steps.after) reply position _ _ goes.steps.leaves told in
+      let so = leaves_said word.Hold _ (next_stage goes.steps.after) reply position _ _ goes.steps.leaves told in
       begun_stands b.session b.follower made goes.steps.after write is
       (subst (λ before. Advances (rules_of tells s) before (world_of old) goes.steps.after (world_of new)) (same ∙ b.plan_is) goes.steps.steps) so.0 so.1
 
@@ -263,9 +263,9 @@ module _ (tells : Bool) (old : Moment) (request : Request) (reply : Reply) (new 
       → Stands write
   asked_stands (asked.Call made) write is h = call_stands made write is h
   asked_stands (asked.Plan (plan.Hold number made)) write is (inl goes) = hold_stands number made write is goes
-  asked_stands (asked.Plan (plan.Hold number made)) write is (inr refuses) = absurd (not_begun_told made reply told refuses.refused)
+  asked_stands (asked.Plan (plan.Hold number made)) write is (inr refuses) = absurd (not_begun_said made reply told refuses.refused)
   asked_stands (asked.Plan (plan.Advance number)) write is h =
-      let so = leaves_told word.Advance _ (next_stage h.after) reply position _ _ h.leaves told in
+      let so = leaves_said word.Advance _ (next_stage h.after) reply position _ _ h.leaves told in
       advance_stands number h.before h.after write h.stands is h.steps so.0 so.1
   asked_stands what write is h = absurd (cc)
 

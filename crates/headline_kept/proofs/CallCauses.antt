@@ -309,5 +309,5 @@ numbered number refusal reply is = sym is
 
 pub leaves_over : (word : PlanWord) (by : NumberedPlan) (next : Option Stage) (refusal : Refusal) (old new : Held)
     → Leaves word by next old (Refused refusal) new → IsOver by.plan (Refused refusal)
-leaves_over word by (Some stage) refusal old new goes = (let no = goes.told in absurd (cc))
-leaves_over word by None refusal old new ends = subst (IsOver by.plan) (numbered by.number refusal ends.ended ends.told) ends.over
+leaves_over word by (Some stage) refusal old new goes = (let no = goes.said in absurd (cc))
+leaves_over word by None refusal old new ends = subst (IsOver by.plan) (numbered by.number refusal ends.ended ends.said) ends.over

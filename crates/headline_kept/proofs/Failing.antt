@@ -19,7 +19,7 @@ use Rattle.tao_core.specs.HeldCalls.{AnswersPlan}
 use Rattle.tao_core.specs.Replies.{AnswersAsked, AnswersRequest}
 use Rattle.tao_keeper.specs.KeeperState.{KeepsTables}
 use Rattle.headline_kept.specs.Headline.{IsAnswered, LinesFailRightly}
-use Rattle.headline_kept.specs.Machine.{StepsAsTold}
+use Rattle.headline_kept.specs.Machine.{StepsAsSaid}
 use Rattle.headline_kept.specs.Scheduled.{SchedulesWithCause, WasOrIsLeftOpen, left_open, why_scheduled}
 use Rattle.headline_kept.specs.Standing.{Asks}
 use Rattle.headline_kept.proofs.HeldJobs.{plan_ends, plan_left, plan_open}
@@ -75,7 +75,7 @@ module _ (tells : Bool) (old : Moment) (request : Request) (reply : Reply) (new 
     held : Was
     held = by_request is.answers
 
-  steps_so : StepsAsTold tells old request reply new
+  steps_so : StepsAsSaid tells old request reply new
   steps_so = record {
     leaves = λ write position asks told so. leaves_row tells old request reply new is so write position asks told;
     retry = λ write told asks said again so. retry_row tells old request reply new is so write told asks said again;

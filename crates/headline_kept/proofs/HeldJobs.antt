@@ -48,7 +48,7 @@ use Rattle.write_plan.specs.declared.committed.Committed.{Committed}
 use Rattle.write_plan.specs.declared.progress.OtherEnd.{OtherEnd}
 use Rattle.write_plan.specs.declared.progress.OtherEnd.TheVariants.{Due, Ended as EndedJob, Merged, Open}
 use Rattle.headline_kept.specs.Scheduled.{LeavesOpen, WasOrIsLeftOpen, left_open, why_open, why_scheduled}
-use Rattle.headline_kept.proofs.LastStages.{TellsEnd, plain_end, tells_end, write_last}
+use Rattle.headline_kept.proofs.LastStages.{SaysEnd, plain_end, says_end, write_last}
 use Rattle.headline_kept.proofs.LeftOpen.{write_opens}
 use Rattle.headline_kept.proofs.StageCauses.{OnlyBy, RefusedBy, ended_so, read_stage_fails, write_stage_fails}
 
@@ -186,7 +186,7 @@ IsBackBefore (of.Read p) = ⊤
 module _ (tells : Bool) (old new : Moment) where
   -- the stage that ends a call with its reply changes no table
   end_keeps : (before after : HeldPlan) (told : CallReply) → IsBackBefore before
-      → Advances (rules_of tells old.core.settings) before (world_of old) after (world_of new) → TellsEnd after told
+      → Advances (rules_of tells old.core.settings) before (world_of old) after (world_of new) → SaysEnd after told
       → KeepsTables tells old.keepers new.keepers
   end_keeps (of.Read p) (of.Read q) told back (inl steps) ends = steps.tables
   end_keeps (of.Write p) (of.Write q) told back (inl steps) ends =
@@ -203,7 +203,7 @@ module _ (tells : Bool) (old new : Moment) where
 
   -- and where the reply says that the inverse is scheduled, the plan's job was left open before it
   end_left : (before after : HeldPlan) (told : WriteReply) (why : ScheduledWhy) → IsBackBefore before
-      → Advances (rules_of tells old.core.settings) before (world_of old) after (world_of new) → TellsEnd after (called.Write told)
+      → Advances (rules_of tells old.core.settings) before (world_of old) after (world_of new) → SaysEnd after (called.Write told)
       → why_scheduled told.written.inverse ≡ Some why → left_open (Some before) ≡ Some why
   end_left (of.Write p) (of.Write q) told why back (inl steps) ends is =
       let rules = rules_of tells old.core.settings in
@@ -312,21 +312,21 @@ module _ (tells : Bool) (old : Moment) (reply : Reply) (new : Moment) (core : Is
       → KeepsTables tells old.keepers new.keepers
   plan_ends (plan.Hold own made) number told (inl goes) is =
       end_keeps tells old new goes.steps.before goes.steps.after told (hold_back own made goes) goes.steps.steps
-      (tells_end word.Hold (numbered_plan own goes.steps.after) (next_stage goes.steps.after) reply number told _ _ refl
+      (says_end word.Hold (numbered_plan own goes.steps.after) (next_stage goes.steps.after) reply number told _ _ refl
       (λ ended over. plain_end (rules_of tells s) goes.steps.before goes.steps.after (world_of old) (world_of new) ended goes.steps.steps over)
       goes.steps.leaves is).1
   plan_ends (plan.Hold own made) number told (inr refuses) is =
       absurd (not_begun_plain old.core.states old.core.sessions made reply number told refuses.refused is)
   plan_ends (plan.Advance own) number told steps is =
       end_keeps tells old new steps.before steps.after told (back_before steps.before (core.plans.begun own steps.before steps.stands)) steps.steps
-      (tells_end word.Advance (numbered_plan own steps.after) (next_stage steps.after) reply number told _ _ refl
+      (says_end word.Advance (numbered_plan own steps.after) (next_stage steps.after) reply number told _ _ refl
       (λ ended over. plain_end (rules_of tells s) steps.before steps.after (world_of old) (world_of new) ended steps.steps over) steps.leaves is).1
 
   pub plan_left : (what : CheckedPlan) (number : ℕ) (told : WriteReply) (why : ScheduledWhy) → AnswersPlan tells what old reply new
       → reply ≡ replied.Plan (Ended number (called.Write told)) → why_scheduled told.written.inverse ≡ Some why
       → left_open (plan_at old.core.plans number) ≡ Some why
   plan_left (plan.Hold own made) number told why (inl goes) is scheduled =
-      let ends = tells_end word.Hold (numbered_plan own goes.steps.after) (next_stage goes.steps.after) reply number (called.Write told) _ _ refl
+      let ends = says_end word.Hold (numbered_plan own goes.steps.after) (next_stage goes.steps.after) reply number (called.Write told) _ _ refl
       (λ ended over. plain_end (rules_of tells s) goes.steps.before goes.steps.after (world_of old) (world_of new) ended goes.steps.steps over)
       goes.steps.leaves is in
       let was = end_left tells old new goes.steps.before goes.steps.after told why (hold_back own made goes) goes.steps.steps ends.1 scheduled in
@@ -334,7 +334,7 @@ module _ (tells : Bool) (old : Moment) (reply : Reply) (new : Moment) (core : Is
   plan_left (plan.Hold own made) number told why (inr refuses) is scheduled =
       absurd (not_begun_plain old.core.states old.core.sessions made reply number (called.Write told) refuses.refused is)
   plan_left (plan.Advance own) number told why steps is scheduled =
-      let ends = tells_end word.Advance (numbered_plan own steps.after) (next_stage steps.after) reply number (called.Write told) _ _ refl
+      let ends = says_end word.Advance (numbered_plan own steps.after) (next_stage steps.after) reply number (called.Write told) _ _ refl
       (λ ended over. plain_end (rules_of tells s) steps.before steps.after (world_of old) (world_of new) ended steps.steps over) steps.leaves is in
       let was = end_left tells old new steps.before steps.after told why
       (back_before steps.before (core.plans.begun own steps.before steps.stands)) steps.steps ends.1 scheduled in

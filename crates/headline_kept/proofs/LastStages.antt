@@ -88,7 +88,7 @@ plain_end rules (of.Write p) (of.Read q) old new ended (inr ends) over = absurd 
 plain_end rules (of.Read p) (of.Write q) old new ended (inr ends) over = absurd ends.gives
 
 -- the plan is over with this reply
-pub record TellsEnd (plan : HeldPlan) (reply : CallReply) : Type 0 where
+pub record SaysEnd (plan : HeldPlan) (reply : CallReply) : Type 0 where
   pub over : IsOver plan (Called reply)
   pub none : next_stage plan ≡ None
 
@@ -99,14 +99,14 @@ numbered_called own number (Refused refusal) reply plain is = absurd (cc)
 numbered_called own number ended reply plain is = absurd plain
 
 -- where a line says that a plan ended with a reply, that plan is over with it
-pub tells_end : (word : PlanWord) (by : NumberedPlan) (next : Option Stage) (reply : Reply) (number : ℕ) (told : CallReply) (old new : Held)
+pub says_end : (word : PlanWord) (by : NumberedPlan) (next : Option Stage) (reply : Reply) (number : ℕ) (told : CallReply) (old new : Held)
     → next_stage by.plan ≡ next → ((ended : Reply) → IsOver by.plan ended → IsPlain ended) → Leaves word by next old reply new
-    → reply ≡ replied.Plan (Ended number told) → (by.number ≡ number) × TellsEnd by.plan told
-tells_end word by (Some stage) reply number told old new next plain goes is =
-    let no : replied.Plan (Next word by.number stage) ≡ replied.Plan (Ended number told) = sym goes.told ∙ is in
+    → reply ≡ replied.Plan (Ended number told) → (by.number ≡ number) × SaysEnd by.plan told
+says_end word by (Some stage) reply number told old new next plain goes is =
+    let no : replied.Plan (Next word by.number stage) ≡ replied.Plan (Ended number told) = sym goes.said ∙ is in
     absurd (cc)
-tells_end word by None reply number told old new next plain ends is =
-    let said = numbered_called by.number number ends.ended told (plain ends.ended ends.over) (sym ends.told ∙ is) in
+says_end word by None reply number told old new next plain ends is =
+    let said = numbered_called by.number number ends.ended told (plain ends.ended ends.over) (sym ends.said ∙ is) in
     (said.0, record { over = subst (IsOver by.plan) said.1 ends.over; none = next })
 
 -- ---- the last stage of a write

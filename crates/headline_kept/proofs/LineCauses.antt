@@ -289,9 +289,9 @@ module _ (tells : Bool) (old : Moment) (request : Request) (new : Moment) where
     repairs = asked.Store (store.Repair shard)
 
     -- what a repair is refused as
-    as_told : (refusal own : Refusal) → Refused refusal ≡ Refused own → RefusesAs tells old request repairs own new
+    as_said : (refusal own : Refusal) → Refused refusal ≡ Refused own → RefusesAs tells old request repairs own new
         → RefusesAs tells old request repairs refusal new
-    as_told refusal own is said =
+    as_said refusal own is said =
         let same : own ≡ refusal = cc in
         subst (λ r. RefusesAs tells old request repairs r new) same said
 
@@ -324,7 +324,7 @@ module _ (tells : Bool) (old : Moment) (request : Request) (new : Moment) where
     repair_by : (outcome : Result (Option Ran) Refusal) (refusal : Refusal) → Refused refusal ≡ repaired_as outcome
         → RepairsFirst tells set shard outcome (world_of old) (world_of new) → RefusesAs tells old request repairs refusal new
     repair_by (Ok found) refusal is h = absurd (cc)
-    repair_by (Err own) refusal is h = as_told refusal own is (repair_fails own h)
+    repair_by (Err own) refusal is h = as_said refusal own is (repair_fails own h)
 
     repair_line : (refusal : Refusal) → AnswersRepair tells shard old (Refused refusal) new → RefusesAs tells old request repairs refusal new
     repair_line refusal h = repair_by h.outcome refusal h.reply_is h.repairs

@@ -1,4 +1,4 @@
--- What a write that isn't held does to the histories, and why its inverse is only scheduled, by what its reply tells.
+-- What a write that isn't held does to the histories, and why its inverse is only scheduled, by what its reply says.
 use Rattle.std.proofs.Common.{◌≡◌, ◌∙◌, ℕ, zero, suc, Bool, true, false, [], Option, Some, None, refl, sym, ap, subst, inl, inr}
 use Rattle.std.proofs.Common.{arith}
 use Rattle.std.specs.Prelude.{◌⊎◌, IfSome, option_and_then}
@@ -63,10 +63,10 @@ use Rattle.write_plan.specs.declared.committed.Committed.{Committed}
 use Rattle.write_plan.specs.declared.progress.OtherEnd.{OtherEnd}
 use Rattle.write_plan.specs.declared.progress.OtherEnd.TheVariants.{Due, Ended, Merged, Open}
 use Rattle.headline_kept.specs.Headline.{IsAnswered}
-use Rattle.headline_kept.specs.Machine.{BetweenLogs, LeavesAt, RepeatsAt, above_zero, told_position}
+use Rattle.headline_kept.specs.Machine.{BetweenLogs, LeavesAt, RepeatsAt, above_zero, said_position}
 use Rattle.headline_kept.specs.Scheduled.{IsScheduled, why_scheduled}
 use Rattle.headline_kept.specs.Standing.{Asks}
-use Rattle.headline_kept.proofs.Acknowledged.{told_entry}
+use Rattle.headline_kept.proofs.Acknowledged.{said_entry}
 use Rattle.headline_kept.proofs.HeldJobs.{IsAnsweredSo, answered_so, left_open_by}
 use Rattle.headline_kept.proofs.LeftOpen.{WriteOpens, write_opened}
 use Rattle.headline_kept.proofs.StageCauses.{was_unrefused}
@@ -125,7 +125,7 @@ module _ (types : EdgeTypes) (start : Logs) (w : ClientWrite) (now : Logs) where
       let next = next_position _ _ _ _ e writes.commits.is in
       absurd (omega (arith, within, next))
 
--- ---- an entry that is told as one that stood
+-- ---- an entry that is said to have stood
 
 retry_of : (retry : Bool) (told : InverseEnd) (entry : Option Entry) → (written_by retry told entry).retry ≡ retry
 retry_of retry told None = refl
@@ -230,23 +230,23 @@ module _ (s : Settings) (began : Begun) (write : CheckedWrite) (start : Logs) (q
   leaves_at position e leaves is = record { entry = e; other = leaves.0; leaves = leaves.1; position_is = is }
 
   refused_leaves : (position : ℕ) (refusal : Refusal) → reply ≡ Refused refusal → RefusesHere start write now (refused_at refusal)
-      → told_position reply ≡ Some position → LeavesAt types start now w position
+      → said_position reply ≡ Some position → LeavesAt types start now w position
   refused_leaves position refusal is here told =
-      let entry = refused_entry start write now (refused_at refusal) position (subst (λ r. told_position r ≡ Some position) is told) here in
+      let entry = refused_entry start write now (refused_at refusal) position (subst (λ r. said_position r ≡ Some position) is told) here in
       leaves_at position entry.0
       (stands_leaves types start w now once q.committed q.job entry.0 so.ran (written_for q.committed so.for_call.answered) entry.1) entry.2
 
-  done_leaves : (position : ℕ) (done : WasDone q reply) → told_position reply ≡ Some position → LeavesAt types start now w position
+  done_leaves : (position : ℕ) (done : WasDone q reply) → said_position reply ≡ Some position → LeavesAt types start now w position
   done_leaves position done told =
       let c = done.c in
-      let entry = told_entry c.wrote.retry (inverse_said (has_other c) q.job) c.wrote.entry position
-      (subst (λ r. told_position r ≡ Some position) done.reply_is told) in
+      let entry = said_entry c.wrote.retry (inverse_said (has_other c) q.job) c.wrote.entry position
+      (subst (λ r. said_position r ≡ Some position) done.reply_is told) in
       leaves_at position entry.0
       (entry_leaves types start w now q.committed q.job entry.0 so.ran
       (ap (λ o. option_and_then (λ (c : Committed). c.wrote.entry) o) done.committed_is ∙ entry.1)) entry.2
 
-  pub told_leaves : (position : ℕ) → told_position reply ≡ Some position → LeavesAt types start now w position
-  told_leaves position told = elim (write_reply_is s began write start q end.keepers so reply over) [
+  pub said_leaves : (position : ℕ) → said_position reply ≡ Some position → LeavesAt types start now w position
+  said_leaves position told = elim (write_reply_is s began write start q end.keepers so reply over) [
     | inl refused ↦ refused_leaves position refused.0 refused.1 refused.2 told
     | inr done ↦ done_leaves position done told
   ]
@@ -347,12 +347,12 @@ module _ (old : Moment) (request : Request) (reply : Reply) (new : Moment) (writ
   Now = (stores_in s new.keepers.told).logs
 
   leaves_by : (after : HeldPlan) (position : ℕ) → OfWrite (WritesThrough s (began_at old write) write (stores_at old).logs) after (world_of new)
-      → IsOver after reply → told_position reply ≡ Some position → LeavesAt (types_of s.schema) (stores_at old).logs Now (write_of write) position
+      → IsOver after reply → said_position reply ≡ Some position → LeavesAt (types_of s.schema) (stores_at old).logs Now (write_of write) position
   leaves_by (of.Write q) position through over told =
-      told_leaves s (began_at old write) write (stores_at old).logs q (world_of new) through reply over position told
+      said_leaves s (began_at old write) write (stores_at old).logs q (world_of new) through reply over position told
   leaves_by (of.Read q) position through over told = absurd through
 
-  goes_leaves : (position : ℕ) → told_position reply ≡ Some position → LeavesAt (types_of s.schema) (stores_at old).logs Now (write_of write) position
+  goes_leaves : (position : ℕ) → said_position reply ≡ Some position → LeavesAt (types_of s.schema) (stores_at old).logs Now (write_of write) position
   goes_leaves position told = leaves_by goes.does.after position goes_through goes.does.over told
 
   module _ (told : WriteReply) (is : reply ≡ Called (called.Write told)) where
@@ -381,9 +381,9 @@ module _ (old : Moment) (request : Request) (reply : Reply) (new : Moment) (writ
 -- ---- whatever the line says
 
 -- a call that isn't begun tells no position
-unbegun_none : (reply : Reply) (position : ℕ) → RefusesUnbegun reply → told_position reply ≡ Some position → ⊥
+unbegun_none : (reply : Reply) (position : ℕ) → RefusesUnbegun reply → said_position reply ≡ Some position → ⊥
 unbegun_none reply position refused told =
-    let at : above_zero (refused_at refused.refusal) ≡ Some position = subst (λ r. told_position r ≡ Some position) refused.reply_is told in
+    let at : above_zero (refused_at refused.refusal) ≡ Some position = subst (λ r. said_position r ≡ Some position) refused.reply_is told in
     absurd (cc (subst (λ n. above_zero n ≡ Some position) refused.position_is at))
 
 -- nor has it an Ok reply
@@ -416,7 +416,7 @@ between Row old new write position same row =
     (sym same) row
 
 pub leaves_row : (tells : Bool) (old : Moment) (request : Request) (reply : Reply) (new : Moment) → IsAnswered tells old request reply new → tells ≡ true
-    → (write : CheckedWrite) (position : ℕ) → Asks old request (asked.Call (call.Write write)) → told_position reply ≡ Some position
+    → (write : CheckedWrite) (position : ℕ) → Asks old request (asked.Call (call.Write write)) → said_position reply ≡ Some position
     → BetweenLogs LeavesAt old write position new
 leaves_row false old request reply new is so write position asks told = absurd (cc)
 leaves_row true old request reply new is so write position asks told = elim (call_goes true old request reply new write is asks) [
@@ -445,10 +445,10 @@ module _ (tells : Bool) (old : Moment) (request : Request) (reply : Reply) (new 
   rules = rules_of tells old.core.settings
 
   -- where the keepers tell their tables
-  position_told : (b : Bool) → b ≡ true → IsCoreOf b old.keepers.told old.core → (goes : CallGoes b (call.Write write) old reply new) (q : Writing) (job : Job)
+  position_said : (b : Bool) → b ≡ true → IsCoreOf b old.keepers.told old.core → (goes : CallGoes b (call.Write write) old reply new) (q : Writing) (job : Job)
       → goes.does.after ≡ of.Write q → answered_job q ≡ Some job → job.position ≡ told.written.position
-  position_told false so core goes q job same answered = absurd (cc)
-  position_told true so core goes q job same answered =
+  position_said false so core goes q job same answered = absurd (cc)
+  position_said true so core goes q job same answered =
       goes_position old request reply new write asks core goes told said q why job same scheduled answered
 
   module _ (goes : CallGoes tells (call.Write write) old reply new) where
@@ -467,7 +467,7 @@ module _ (tells : Bool) (old : Moment) (request : Request) (reply : Reply) (new 
           session = goes.begun.session;
           found = goes.begun.found;
           job = left.0;
-          position_is = λ so. position_told tells so is.before goes q left.0 same left.1;
+          position_is = λ so. position_said tells so is.before goes q left.0 same left.1;
           owed = subst (λ o. IfSome o (λ j. CanBeMerged tells old.core.settings new.keepers.told (job_on (write_shard write.write) j))) left.1 opened.can;
           cause = left.2;
         }

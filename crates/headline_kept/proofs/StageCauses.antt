@@ -151,15 +151,15 @@ module _ (Down : NodeName → When → Type 0) (old : World) where
 
   not_given : (s : Settings) (route : Route) (read : Wanted) (refusal : Refusal) (now : World) → IsNotGiven s route read refusal old now
       → Because now refusal
-  not_given s route read refusal now (inl lost) = subst (Because now) (sym lost.told) (refl, lost.carry.rose, refl)
+  not_given s route read refusal now (inl lost) = subst (Because now) (sym lost.said) (refl, lost.carry.rose, refl)
   not_given s route read refusal now (inr (inl nothing)) = gives_nothing refusal now nothing.fails
-  not_given s route read refusal now (inr (inr lost)) = subst (Because now) (sym lost.lost.told) (refl, lost.lost.carry.rose, refl)
+  not_given s route read refusal now (inr (inr lost)) = subst (Because now) (sym lost.lost.said) (refl, lost.lost.carry.rose, refl)
 
   not_read : (s : Settings) (follower : NodeName) (query : Query) (refusal : Refusal) (now : World) → IsNotRead s follower query refusal old now
       → Because now refusal
-  not_read s follower query refusal now (inl lost) = subst (Because now) (sym lost.told) (refl, lost.carry.rose, refl)
+  not_read s follower query refusal now (inl lost) = subst (Because now) (sym lost.said) (refl, lost.carry.rose, refl)
   not_read s follower query refusal now (inr (inl nothing)) = gives_nothing refusal now nothing.fails
-  not_read s follower query refusal now (inr (inr lost)) = subst (Because now) (sym lost.lost.told) (refl, lost.lost.carry.rose, refl)
+  not_read s follower query refusal now (inr (inr lost)) = subst (Because now) (sym lost.lost.said) (refl, lost.lost.carry.rose, refl)
 
   -- the end of the ask changes nothing outside
   asks_end : (refusal : Refusal) (mid new : World) → outside_of new ≡ outside_of mid → Because mid refusal → Because new refusal
@@ -269,12 +269,12 @@ module _ (rules : Rules) (p q : Writing) (old new : World) where
   no_entry : p.committed ≡ None → when_of (answered_entry p) ≡ Before
   no_entry none = ap (λ (c : Option Committed). when_of (option_and_then (λ c. c.wrote.entry) c)) none
 
-  told_before : (when : When) → p.committed ≡ None → when ≡ Before → when ≡ when_of (answered_entry p)
-  told_before when none before = before ∙ sym (no_entry none)
+  said_before : (when : When) → p.committed ≡ None → when ≡ Before → when ≡ when_of (answered_entry p)
+  said_before when none before = before ∙ sym (no_entry none)
 
   passing : (route : Route) (refusal : Refusal) → p.committed ≡ None → RefusesPassing rules.tells route refusal old new → Fails refusal
   passing route (Store (LinkFault count when)) none h =
-      record { cause = (h.0, h.1.carry.rose, told_before when none h.1.before); same = h.1.same.tables }
+      record { cause = (h.0, h.1.carry.rose, said_before when none h.1.before); same = h.1.same.tables }
   passing route (Memory position) none h = record { cause = (none, h.0); same = λ told at. ap (λ (w : World). w.keepers.told at) h.1 }
   passing route refusal none h = absurd h
 
@@ -285,7 +285,7 @@ module _ (rules : Rules) (p q : Writing) (old new : World) where
   commit_fails : (led : LedBy) (refusal : Refusal) → p.committed ≡ None
       → RefusesCommit rules.tells rules.settings (sent_by led p) refusal (come_past led old) new → Fails refusal
   commit_fails led (Store (LinkFault count when)) none h = record {
-    cause = (h.0, subst (λ n. Rose n new.link.faults) (past_faults led.passed old.link) h.1.carry.rose, told_before when none h.1.before);
+    cause = (h.0, subst (λ n. Rose n new.link.faults) (past_faults led.passed old.link) h.1.carry.rose, said_before when none h.1.before);
     same = h.1.same.tables;
   }
   commit_fails led (Store (TooOld cut position)) none h = record { cause = (none, h.0); same = h.1.same.tables }

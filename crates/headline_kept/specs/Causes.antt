@@ -58,17 +58,17 @@ use Rattle.headline_kept.specs.Standing.{Asks, StandsTold, StandsWhen, write_of}
 
 -- `no_plan`: the plan that is advanced isn't held. `plan_there`, `plan_full`: the one that is to be held is held, or as many are as may be
 abbrev pub PlanCause : Plans → Request → PlanRefused → Type 0
-PlanCause plans (request.Plan (plan_request.Advance number)) (NoPlan told) = (told ≡ number) × (plan_at plans number ≡ None)
-PlanCause plans (request.Plan (plan_request.Hold number made)) (PlanThere told) = (told ≡ number) × IsSome (plan_at plans number)
+PlanCause plans (request.Plan (plan_request.Advance number)) (NoPlan said) = (said ≡ number) × (plan_at plans number ≡ None)
+PlanCause plans (request.Plan (plan_request.Hold number made)) (PlanThere said) = (said ≡ number) × IsSome (plan_at plans number)
 PlanCause plans (request.Plan (plan_request.Hold number made)) (PlanFull count) = (count ≡ plan_count plans) × (most_plans ≤ plan_count plans)
 PlanCause plans request refused = ⊥
 
 -- `no_session`: the session of a call, held or not, isn't open. `session_there`, `session_full`: the one that is to be opened is open, or as many are as may
 -- be
 abbrev pub SessionCause : List Session → Request → SessionRefused → Type 0
-SessionCause sessions (request.Call made) (NoSession told) = (told ≡ asking_session made) × (is_open sessions told ≡ false)
-SessionCause sessions (request.Plan (plan_request.Hold number made)) (NoSession told) = (told ≡ asking_session made) × (is_open sessions told ≡ false)
-SessionCause sessions (request.Open opening) (SessionThere told) = (told ≡ opening.session) × (is_open sessions told ≡ true)
+SessionCause sessions (request.Call made) (NoSession said) = (said ≡ asking_session made) × (is_open sessions said ≡ false)
+SessionCause sessions (request.Plan (plan_request.Hold number made)) (NoSession said) = (said ≡ asking_session made) × (is_open sessions said ≡ false)
+SessionCause sessions (request.Open opening) (SessionThere said) = (said ≡ opening.session) × (is_open sessions said ≡ true)
 SessionCause sessions (request.Open opening) (SessionFull count) = (count ≡ length sessions) × (most_sessions ≤ length sessions)
 SessionCause sessions request refused = ⊥
 
@@ -76,10 +76,10 @@ SessionCause sessions request refused = ⊥
 
 -- `no_message`: the inbox of the node doesn't reach to the place
 abbrev pub MessageCause : Checked → Inboxes → ℕ → Type 0
-MessageCause (asked.Cache (cache.Deliver node place)) mail told = (told ≡ place) × WaitsAt node place None mail
-MessageCause (asked.Cache (cache.Again node place)) mail told = (told ≡ place) × WaitsAt node place None mail
-MessageCause (asked.Cache (cache.Drop node place)) mail told = (told ≡ place) × WaitsAt node place None mail
-MessageCause what mail told = ⊥
+MessageCause (asked.Cache (cache.Deliver node place)) mail said = (said ≡ place) × WaitsAt node place None mail
+MessageCause (asked.Cache (cache.Again node place)) mail said = (said ≡ place) × WaitsAt node place None mail
+MessageCause (asked.Cache (cache.Drop node place)) mail said = (said ≡ place) × WaitsAt node place None mail
+MessageCause what mail said = ⊥
 
 -- no refill waits at the follower
 pub record HasNoRefills (node : NodeName) (fleet : Fleet) : Type 0 where
@@ -89,8 +89,8 @@ pub record HasNoRefills (node : NodeName) (fleet : Fleet) : Type 0 where
 
 -- `no_refill`: the follower is down, or no refill waits there
 abbrev pub RefillCause : Checked → CoreState → NodeName → Type 0
-RefillCause (asked.Cache (cache.Refill node)) core told = (told ≡ node) × ((is_up core.states node ≡ false) ⊎ HasNoRefills node core.fleet)
-RefillCause what core told = ⊥
+RefillCause (asked.Cache (cache.Refill node)) core said = (said ≡ node) × ((is_up core.states node ≡ false) ⊎ HasNoRefills node core.fleet)
+RefillCause what core said = ⊥
 
 -- `is_master`: the stream goes into the store of its shard's master
 abbrev pub MasterCause : Checked → Settings → ℕ → ℕ → Type 0
@@ -100,9 +100,9 @@ MasterCause what s told_region told_shard = ⊥
 
 -- `no_entry`: the log of the shard, of that length, has no entry at the position that is asked for
 abbrev pub EntryCause : Bool → Checked → Settings → Tables → ℕ → ℕ → Type 0
-EntryCause tells (asked.Store (store.Stream region shard position)) s tables count told =
-    (position ≡ Some told) × WhereTold tells (LacksEntry s tables shard position count told)
-EntryCause tells what s tables count told = ⊥
+EntryCause tells (asked.Store (store.Stream region shard position)) s tables count said =
+    (position ≡ Some said) × WhereTold tells (LacksEntry s tables shard position count said)
+EntryCause tells what s tables count said = ⊥
 
 -- in the region of the shard's master, which is this, a tier can choose no leader
 pub record HasNoLeader (states : NodeStates) (by : ℕ × ℕ) (shard region : ℕ) : Type 0 where
@@ -193,8 +193,8 @@ StopCause tells shard why.LogFull old new = WhereTold tells ((count : ℕ) × Fi
 
 -- `unsettled`: a settle stopped at a configured shard
 abbrev pub UnsettledCause : Bool → Checked → ℕ → UnsettledWhy → Moment → Moment → Type 0
-UnsettledCause tells (asked.Store store.Settle) shard told old new = (shard < old.core.settings.shards) × StopCause tells shard told old new
-UnsettledCause tells what shard told old new = ⊥
+UnsettledCause tells (asked.Store store.Settle) shard said old new = (shard < old.core.settings.shards) × StopCause tells shard said old new
+UnsettledCause tells what shard said old new = ⊥
 
 -- what a refusal of a store comes of: what the log says of the write; or a fault, whose count is told and rose in this request
 abbrev pub StoreCause : Bool → Checked → Moment → StoreRefused → Moment → Type 0
@@ -210,7 +210,7 @@ StoreCause tells what old (LogFull count) new = FullCause tells what old count n
 StoreCause tells what old (KeeperFault count) new = (count ≡ new.keepers.faults) × Rose old.keepers.faults new.keepers.faults
 StoreCause tells what old (LinkFault count when) new = (count ≡ new.link.faults) × Rose old.link.faults new.link.faults
     × StandsWhen tells old.core.settings new.keepers.told (write_of old.core.plans what) when
-StoreCause tells what old (Unsettled shard told) new = UnsettledCause tells what shard told old new
+StoreCause tells what old (Unsettled shard said) new = UnsettledCause tells what shard said old new
 
 -- ---- memory
 

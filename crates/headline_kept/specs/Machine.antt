@@ -1,4 +1,4 @@
--- What a write does to the histories, by what its reply tells: the rows of the plain machine.
+-- What a write does to the histories, by what its reply says: the rows of the plain machine.
 use Rattle.std.specs.Prelude.{ℕ, ◌≡◌, zero, suc, true, Bool, Option, Some, None}
 use Rattle.graph_model.specs.Told.{WhereTold}
 use Rattle.headline_kept.specs.Standing.{Asks, acknowledged}
@@ -28,9 +28,9 @@ above_zero zero = None
 above_zero (suc n) = Some (suc n)
 
 -- the position that the reply to a write tells, whether Ok or a refusal, at which its entry stands
-abbrev pub told_position : Reply → Option ℕ
-told_position (Refused refusal) = above_zero (refused_at refusal)
-told_position reply = acknowledged reply
+abbrev pub said_position : Reply → Option ℕ
+said_position (Refused refusal) = above_zero (refused_at refusal)
+said_position reply = acknowledged reply
 
 -- the logs were left with the write's entry at the position: a new one, or the one that stood there, under the write's session and number, and as it asked.
 -- Its job may have been merged, and no log has anything else that it hadn't before
@@ -52,12 +52,12 @@ abbrev pub BetweenLogs : (EdgeTypes → Logs → Logs → ClientWrite → ℕ �
 BetweenLogs Row old write position new =
     Row (types_of old.core.settings.schema) (stores_at old).logs (stores_at new).logs (client_write_of (stores_at old) write) position
 
--- a write that isn't held, and whose reply tells a position, leaves its entry there, be it answered or refused. Where the reply says `retry`, the entry stood
+-- a write that isn't held, and whose reply says a position, leaves its entry there, be it answered or refused. Where the reply says `retry`, the entry stood
 -- there before. The line that ends a held call with its reply changes no table: what is said of it was done by the lines before
-pub record StepsAsTold (tells : Bool) (old : Moment) (request : Request) (reply : Reply) (new : Moment) : Type 0 where
-  pub leaves : (write : CheckedWrite) (position : ℕ) → Asks old request (asked.Call (call.Write write)) → told_position reply ≡ Some position
+pub record StepsAsSaid (tells : Bool) (old : Moment) (request : Request) (reply : Reply) (new : Moment) : Type 0 where
+  pub leaves : (write : CheckedWrite) (position : ℕ) → Asks old request (asked.Call (call.Write write)) → said_position reply ≡ Some position
       → WhereTold tells (BetweenLogs LeavesAt old write position new)
-  pub retry : (write : CheckedWrite) (told : WriteReply) → Asks old request (asked.Call (call.Write write)) → reply ≡ Called (called.Write told)
-      → told.written.retry ≡ true → WhereTold tells (BetweenLogs RepeatsAt old write told.written.position new)
-  pub ends : (plan : CheckedPlan) (number : ℕ) (told : CallReply) → Asks old request (asked.Plan plan) → reply ≡ Plan (Ended number told)
+  pub retry : (write : CheckedWrite) (said : WriteReply) → Asks old request (asked.Call (call.Write write)) → reply ≡ Called (called.Write said)
+      → said.written.retry ≡ true → WhereTold tells (BetweenLogs RepeatsAt old write said.written.position new)
+  pub ends : (plan : CheckedPlan) (number : ℕ) (said : CallReply) → Asks old request (asked.Plan plan) → reply ≡ Plan (Ended number said)
       → KeepsTables tells old.keepers new.keepers

@@ -109,9 +109,9 @@ WasOrIsLeftOpen tells before old why new = (left_open before ≡ Some why)
 -- left its job open: a job that is left open of a plan that is held was so before the line, or is so by it. The line that ends the plan tells what it was
 -- before
 pub record SchedulesWithCause (tells : Bool) (old : Moment) (request : Request) (reply : Reply) (new : Moment) : Type 0 where
-  pub at_once : (write : CheckedWrite) (told : WriteReply) (why : ScheduledWhy) → Asks old request (asked.Call (call.Write write))
-      → reply ≡ Called (called.Write told) → why_scheduled told.written.inverse ≡ Some why → IsScheduled tells old write told why new
+  pub at_once : (write : CheckedWrite) (said : WriteReply) (why : ScheduledWhy) → Asks old request (asked.Call (call.Write write))
+      → reply ≡ Called (called.Write said) → why_scheduled said.written.inverse ≡ Some why → IsScheduled tells old write said why new
   pub held : (number : ℕ) (why : ScheduledWhy) → left_open (plan_at new.core.plans number) ≡ Some why
       → WasOrIsLeftOpen tells (plan_at old.core.plans number) old why new
-  pub ends : (plan : CheckedPlan) (number : ℕ) (told : WriteReply) (why : ScheduledWhy) → Asks old request (asked.Plan plan)
-      → reply ≡ Plan (Ended number (called.Write told)) → why_scheduled told.written.inverse ≡ Some why → left_open (plan_at old.core.plans number) ≡ Some why
+  pub ends : (plan : CheckedPlan) (number : ℕ) (said : WriteReply) (why : ScheduledWhy) → Asks old request (asked.Plan plan)
+      → reply ≡ Plan (Ended number (called.Write said)) → why_scheduled said.written.inverse ≡ Some why → left_open (plan_at old.core.plans number) ≡ Some why

@@ -85,7 +85,7 @@ acknowledged (Called (called.Write reply)) = written_at reply.written
 acknowledged (Plan (Ended number (called.Write reply))) = written_at reply.written
 acknowledged other = None
 
--- where the line carries out a write, held or not, and its Ok reply tells a position, the write's own entry stands there. What stood before the line stands
+-- where the line carries out a write, held or not, and its Ok reply says a position, the write's own entry stands there. What stood before the line stands
 -- after it, and no log has two entries of one origin
 pub record KeepsAcknowledged (tells : Bool) (old : Moment) (request : Request) (reply : Reply) (new : Moment) : Type 0 where
   pub written : (what : Checked) (write : AuthoredWrite) (position : ℕ) → Asks old request what → write_of old.core.plans what ≡ Some write

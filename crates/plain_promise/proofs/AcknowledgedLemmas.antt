@@ -98,10 +98,10 @@ line_stands : (types : EdgeTypes) (calls : Calls) (old new : Plain) (asked : Opt
     → StandsAtPosition new.stores write position
 line_stands types calls old new asked reply write position are says is =
     let told = is.reply in
-    let above = subst (λ n. 0 < n) (sym is.told) is.some in
+    let above = subst (λ n. 0 < n) (sym is.position_is) is.some in
     let of = is.of in
     let replied = is.replied in
-    subst (StandsAtPosition new.stores write) is.told (by asked of says above)
+    subst (StandsAtPosition new.stores write) is.position_is (by asked of says above)
   where
     by : (what : Option Checked) → call_of_line calls what ≡ Some (Write write) → SaysPlainly types old what reply new → 0 < is.reply.written.position
         → StandsAtPosition new.stores write is.reply.written.position
@@ -163,10 +163,10 @@ kept_on types old (said ∷ more) new runs was =
     kept_on types runs.0 more new runs.3 (kept_after types old runs.0 said.asked said.reply runs.1 was)
 
 -- a line that acknowledges a write asks something
-kept_told : (types : EdgeTypes) (calls : Calls) (old new : Plain) (asked : Option Checked) (reply : Reply) (write : CheckedWrite)
+kept_said : (types : EdgeTypes) (calls : Calls) (old new : Plain) (asked : Option Checked) (reply : Reply) (write : CheckedWrite)
     → call_of_line calls asked ≡ Some (Write write) → SaysPlainly types old asked reply new → IsWellKept types new.stores
-kept_told types calls old new None reply write of says = absurd (cc)
-kept_told types calls old new (Some asked) reply write of says = says.well_kept
+kept_said types calls old new None reply write of says = absurd (cc)
+kept_said types calls old new (Some asked) reply write of says = says.well_kept
 
 -- what a run acknowledged stands after it, and logs are well kept then
 record StandsKept (types : EdgeTypes) (new : Plain) (write : CheckedWrite) (position : ℕ) : Type 0 where
@@ -178,7 +178,7 @@ acknowledged : (types : EdgeTypes) (calls : Calls) (old : Plain) (saids : List S
 acknowledged types calls old [] new write position are runs is = absurd is
 acknowledged types calls old (said ∷ more) new write position are runs (inl first) = record {
   stands = stands_on types runs.0 more new write position runs.3 (line_stands types calls old runs.0 said.asked said.reply write position are runs.1 first);
-  kept = kept_on types runs.0 more new runs.3 (kept_told types calls old runs.0 said.asked said.reply write first.of runs.1);
+  kept = kept_on types runs.0 more new runs.3 (kept_said types calls old runs.0 said.asked said.reply write first.of runs.1);
 }
 acknowledged types calls old (said ∷ more) new write position are runs (inr later) =
     acknowledged types (calls_after calls said.asked) runs.0 more new write position (calls_on types calls old runs.0 said.asked said.reply are runs.1)

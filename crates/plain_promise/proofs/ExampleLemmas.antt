@@ -282,12 +282,12 @@ eight_are_refused = record {
       let stands = subst (λ s. entry_at (log_of s.logs 0) entry.position ≡ Some entry) stores says.says.1.stands in
       let none : None ≡ Some entry = subst (λ n. entry_at [] n ≡ Some entry) says.says.2 stands in
       absurd (cc (none));
-  not_told = λ new stores says. (let same : first_add ≡ [] = ap (λ l. log_of l 0) (ap (λ (s : Stores). s.logs) (sym stores) ∙ says.says) in absurd (cc (same)));
+  not_said = λ new stores says. (let same : first_add ≡ [] = ap (λ l. log_of l 0) (ap (λ (s : Stores). s.logs) (sym stores) ∙ says.says) in absurd (cc (same)));
   job_open = λ new us stores says.
       let none : Some us ≡ None = subst (λ s. s.job 0 0 ≡ None) stores (says.says.none 0 0) in
       absurd (cc (none));
   front_audited = λ new says. (let same = says.says.reply_is in absurd (cc (same)));
-  end_untold = λ new logs learnt says.
+  end_unlearnt = λ new logs learnt says.
       let there = says.says.learns merged_entry (subst (λ l. Contains (gained ([] ∷ [] ∷ []) l) merged_entry) (sym logs) (1, merged_within, refl)) in
       far_alone (subst (λ es. Contains es merged_entry) learnt there);
 }

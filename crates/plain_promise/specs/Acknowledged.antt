@@ -48,12 +48,12 @@ reply_to_write (Called (called.Write reply)) = Some reply
 reply_to_write (Plan (Ended number (called.Write reply))) = Some reply
 reply_to_write other = None
 
--- the line acknowledges the write: it is of it, and its Ok reply tells the position of an entry
+-- the line acknowledges the write: it is of it, and its Ok reply says the position of an entry
 pub record Acknowledges (calls : Calls) (said : Said) (write : CheckedWrite) (position : ℕ) : Type 0 where
   pub reply : WriteReply
   pub of : call_of_line calls said.asked ≡ Some (Write write)
   pub replied : reply_to_write said.reply ≡ Some reply
-  pub told : reply.written.position ≡ position
+  pub position_is : reply.written.position ≡ position
   pub some : 0 < position
 
 -- one of the lines acknowledges the write

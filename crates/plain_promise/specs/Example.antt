@@ -143,12 +143,12 @@ pub record EightAreRefused : Type 0 where
   -- a write that is refused with an entry that doesn't stand
   pub not_there : (new : Plain) → new.stores ≡ with_log [] → SaysPlainly one_type at_first (Some adds) (node_is_down (After 1)) new → ⊥
   -- a write that is refused without the entry that its line has written
-  pub not_told : (new : Plain) → new.stores ≡ with_log first_add → SaysPlainly one_type at_first (Some adds) (node_is_down Before) new → ⊥
+  pub not_said : (new : Plain) → new.stores ≡ with_log first_add → SaysPlainly one_type at_first (Some adds) (node_is_down Before) new → ⊥
   -- a settle that leaves an open job
   pub job_open : (new : Plain) (us : List EdgeUpdate) → new.stores ≡ job_left us
       → SaysPlainly one_type once_written (Some (asks.Store Settle)) (Settled (1 ∷ [])) new → ⊥
   -- an audit of a front of the log
   pub front_audited : (new : Plain) → SaysPlainly one_type once_written (Some (asks.Store (Audit reads_list))) (Audited (EdgesAre []) 0) new → ⊥
-  -- a write whose session wasn't told of the entry that its line added at the other end
-  pub end_untold : (new : Plain) → new.stores.logs ≡ both_ends → new.learnt 1 ≡ far_follow
+  -- a write whose session didn't learn of the entry that its line added at the other end
+  pub end_unlearnt : (new : Plain) → new.stores.logs ≡ both_ends → new.learnt 1 ≡ far_follow
       → SaysPlainly four_types two_shards (Some follows_far) (Called (called.Write followed_at_1)) new → ⊥

@@ -117,7 +117,7 @@ abbrev pub last_seen : List SeenVersion → Key → ℕ
 last_seen [] key = 0
 last_seen (seen ∷ more) key = max (if same_key key seen.key then seen.version else 0) (last_seen more key)
 
--- the version of the key that a read has at least: the greatest that its session was told of before it began, by entries that it has learnt of or by reads
+-- the version of the key that a read has at least: the greatest that its session knew before it began, by entries that it has learnt of or by reads
 abbrev pub floor_at_start : Begun → Key → ℕ
 floor_at_start began key = max (floor began.learnt key) (last_seen began.seen key)
 
@@ -153,17 +153,17 @@ abbrev pub WritesAlone : EdgeTypes → Stores → CheckedWrite → Logs → Type
 WritesAlone types old call new =
     (new ≡ old.logs) ⊎ ((entry : Entry) × (other : ℕ) × LeavesEntry types old.logs new (client_write_of old call) entry other)
 
--- the id that a reply tells is that of the object which the entry adds
-abbrev pub TellsId : WriteKind → Entry → Type 0
-TellsId (kind.ObjAdd id) entry = IsSomeAnd (slice_get entry.touches 0) (λ t. t.key ≡ Obj id)
-TellsId other entry = ⊤
+-- the id that a reply says is that of the object which the entry adds
+abbrev pub SaysId : WriteKind → Entry → Type 0
+SaysId (kind.ObjAdd id) entry = IsSomeAnd (slice_get entry.touches 0) (λ t. t.key ≡ Obj id)
+SaysId other entry = ⊤
 
--- the write's entry stands at the position that the reply tells, and adds the object that it names; where the reply says that the inverse is written, the
+-- the write's entry stands at the position that the reply says, and adds the object that it names; where the reply says that the inverse is written, the
 -- other end of each edge has what the entry wrote, or a later record
 pub record StandsAsLearnt (types : EdgeTypes) (stores : Stores) (call : CheckedWrite) (reply : WriteReply) (entry : Entry) : Type 0 where
   pub stands : StandsFor stores.logs (client_write_of stores call) entry
   pub position_is : reply.written.position ≡ entry.position
-  pub id_is : TellsId reply.kind entry
+  pub id_is : SaysId reply.kind entry
   pub other_ends : reply.written.inverse ≡ inverse.Written → AreThere (log_of stores.logs) (job_of types entry)
 
 -- the log had a moment, since the write began, at which there was nothing for it to change
@@ -184,7 +184,7 @@ pub record IsAcknowledged (types : EdgeTypes) (began : Begun) (call : CheckedWri
       ⊎ FoundNothing types began new.stores call reply
   pub learns : HasLearntEach (new.learnt call.session) (began.added ++ gained old new.stores.logs)
 
--- the position that a refusal tells: that of an entry which stands all the same, or 0
+-- the position that a refusal says: that of an entry which stands all the same, or 0
 abbrev pub refused_at : Refusal → ℕ
 refused_at (Memory position) = position
 refused_at (Store (LinkFault count (After position))) = position
@@ -237,7 +237,7 @@ IsRepairedUpTo shard (suc n) stores = (position : ℕ) → position ≤ suc n �
 abbrev pub RepairsAlone : EdgeTypes → Stores → Logs → Type 0
 RepairsAlone types old new = (new ≡ old.logs) ⊎ ((owed : JobSource) × Repairs types old new owed)
 
--- after a settle no job is open, each edge is paired, and the reply tells the lengths of the logs
+-- after a settle no job is open, each edge is paired, and the reply says the lengths of the logs
 pub record IsSettledNow (types : EdgeTypes) (lengths : List ℕ) (new : Stores) : Type 0 where
   pub none : HaveNoJobs new
   pub paired : ArePaired types new.logs
@@ -341,8 +341,8 @@ pub record IsWellKept (types : EdgeTypes) (stores : Stores) : Type 0 where
 abbrev pub EachGrows : Logs → Logs → Type 0
 EachGrows old new = (shard : ℕ) → log_of old shard ≡ take (length (log_of old shard)) (log_of new shard)
 
--- a line that asks something. Its reply is right. The logs changed only as what it asks does, each of them at its end, and are well kept. A session that was
--- told of an entry stays so, has seen what its reads answered and nothing else, and a plan holds its call
+-- a line that asks something. Its reply is right. The logs changed only as what it asks does, each of them at its end, and are well kept. A session that has
+-- learnt of an entry stays so, has seen what its reads answered and nothing else, and a plan holds its call
 pub record KeepsPromise (types : EdgeTypes) (old : Plain) (asked : Checked) (reply : Reply) (new : Plain) : Type 0 where
   pub says : SaysRightly types old asked reply new
   pub changes : ChangesLogs types old asked new.stores.logs

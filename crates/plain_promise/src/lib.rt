@@ -37,7 +37,7 @@ pub fn six_lines_run()
 {}
 
 /// A read below its session's floor, one that goes back behind what its session has seen, an acknowledged write that doesn't stand, or whose
-/// other end its session wasn't told of, a write that is refused with an entry that doesn't stand, or without the one that does, a settle that
+/// other end its session didn't learn of, a write that is refused with an entry that doesn't stand, or without the one that does, a settle that
 /// leaves a job and an audit of a front are none.
 #[tactic(auto, using(crate::proofs::ExampleLemmas::eight_are_refused))]
 pub fn eight_are_refused()

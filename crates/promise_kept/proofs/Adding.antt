@@ -24,8 +24,8 @@ use Rattle.node_name.specs.declared.NodeName.{NodeName}
 use Rattle.plain_promise.proofs.PromiseLaws.{grown_by}
 use Rattle.plain_promise.specs.Promise.{EachGrows, Logs, gained}
 use Rattle.promise_kept.proofs.Going.{log_is, same_logs}
-use Rattle.promise_kept.proofs.Learning.{as_told}
-use Rattle.promise_kept.specs.Seen.{IsToldOf, IsWhatIsTold}
+use Rattle.promise_kept.proofs.Learning.{as_learnt}
+use Rattle.promise_kept.specs.Seen.{IsLearnt, IsOneLearnt}
 use Rattle.replies.specs.declared.calls.ScheduledWhy.{ScheduledWhy}
 use Rattle.replies.specs.declared.calls.ScheduledWhy.TheVariants as why
 use Rattle.shard_tables.specs.Written.{AskedWrite}
@@ -93,23 +93,23 @@ gained_past (was ∷ old) (now ∷ new) e has = elim (Contains-append_cases (dro
   | inr later ↦ past_later was old now new e (gained_past old new e later)
 ]
 
--- ---- that all of it is told
+-- ---- that all of it is learnt
 
--- each entry that logs have gained since these is one that is told
-abbrev pub AddsTold : Logs → Logs → LearntEntries → Type 0
-AddsTold start now told =
-    (shard position : ℕ) (e : Entry) → entry_at (log_of now shard) position ≡ Some e → length (log_of start shard) < position → IsToldOf told e
+-- each entry that logs have gained since these is one that is learnt
+abbrev pub AddsLearnt : Logs → Logs → LearntEntries → Type 0
+AddsLearnt start now told =
+    (shard position : ℕ) (e : Entry) → entry_at (log_of now shard) position ≡ Some e → length (log_of start shard) < position → IsLearnt told e
 
 not_past : (log : List Entry) (position : ℕ) (e : Entry) → entry_at log position ≡ Some e → length log < position → ⊥
 not_past log position e stands past = (let within = entry_at-within log position e stands in omega (arith, past, within))
 
 -- none was added
-pub adds_same : (start now : Logs) (told : LearntEntries) → now ≡ start → AddsTold start now told
+pub adds_same : (start now : Logs) (told : LearntEntries) → now ≡ start → AddsLearnt start now told
 adds_same start now told same shard position e stands past =
     absurd (not_past (log_of start shard) position e (subst (λ logs. entry_at (log_of logs shard) position ≡ Some e) same stands) past)
 
 -- one was added
-pub adds_gain : (old new : Logs) (shard : ℕ) (e : Entry) (told : LearntEntries) → Gains old new shard e → IsToldOf told e → AddsTold old new told
+pub adds_gain : (old new : Logs) (shard : ℕ) (e : Entry) (told : LearntEntries) → Gains old new shard e → IsLearnt told e → AddsLearnt old new told
 adds_gain old new shard e told gains is other position x stands past = elim (cases_eq other shard) [
   | inl same ↦
       let here : log_of new shard ≡ log_of old shard ++ e ∷ [] =
@@ -117,7 +117,7 @@ adds_gain old new shard e told gains is other position x stands past = elim (cas
       let there = subst (λ l. entry_at l position ≡ Some x) (ap (log_of new) same ∙ here) stands in
       elim (entry_at-push (log_of old shard) e position x there) [
         | inl before ↦ absurd (not_past (log_of old shard) position x before (subst (λ n. length (log_of old n) < position) same past))
-        | inr last ↦ subst (IsToldOf told) last.1 is
+        | inr last ↦ subst (IsLearnt told) last.1 is
       ]
   | inr apart ↦
       let stays : log_of new other ≡ log_of old other =
@@ -137,8 +137,8 @@ entry_at-front log more zero e at lt = absurd (cc (at))
 entry_at-front log more (suc n) e at lt = slice_get-front log more n e at (omega (arith, lt))
 
 -- what was added by then, and what was added since
-pub adds_on : (start mid now : Logs) (first second : LearntEntries) → EachGrows mid now → ((e : Entry) → IsToldOf first e → IsToldOf second e)
-    → AddsTold start mid first → AddsTold mid now second → AddsTold start now second
+pub adds_on : (start mid now : Logs) (first second : LearntEntries) → EachGrows mid now → ((e : Entry) → IsLearnt first e → IsLearnt second e)
+    → AddsLearnt start mid first → AddsLearnt mid now second → AddsLearnt start now second
 adds_on start mid now first second grows still was adds shard position e stands past = elim (cases_lt (length (log_of mid shard)) position) [
   | inl later ↦ adds shard position e stands later
   | inr before ↦
@@ -147,56 +147,56 @@ adds_on start mid now first second grows still was adds shard position e stands 
       still e (was shard position e (entry_at-front (log_of mid shard) (grown.more shard) position e there (omega (arith, before))) past)
 ]
 
--- ---- what is told of each end
+-- ---- what is learnt of each end
 
--- an entry that a commit answered is told
-pub told_here : (q : Writing) (c : Committed) → q.committed ≡ Some c → (e : Entry) → c.wrote.entry ≡ Some e → IsToldOf (learnt_of_write q) e
-told_here q c committed e entry =
-    inl (subst (λ o. IsWhatIsTold (learnt_here (record q { committed = o })) e) (sym committed)
-    (subst (λ o. IsWhatIsTold (option_map (as_told (write_shard q.write) c.wrote.note) o) e) (sym entry) refl))
+-- an entry that a commit answered is learnt
+pub here_learnt : (q : Writing) (c : Committed) → q.committed ≡ Some c → (e : Entry) → c.wrote.entry ≡ Some e → IsLearnt (learnt_of_write q) e
+here_learnt q c committed e entry =
+    inl (subst (λ o. IsOneLearnt (learnt_here (record q { committed = o })) e) (sym committed)
+    (subst (λ o. IsOneLearnt (option_map (as_learnt (write_shard q.write) c.wrote.note) o) e) (sym entry) refl))
 
--- of a write whose commit wasn't answered nothing is told
-pub none_told : (p : Writing) → p.committed ≡ None → (e : Entry) → IsToldOf (learnt_of_write p) e → ⊥
-none_told p none e told = by p.committed none told
+-- of a write whose commit wasn't answered nothing is learnt
+pub none_learnt : (p : Writing) → p.committed ≡ None → (e : Entry) → IsLearnt (learnt_of_write p) e → ⊥
+none_learnt p none e told = by p.committed none told
   where
-    by : (committed : Option Committed) → committed ≡ None → IsToldOf (learnt_of_write (record p { committed = committed })) e → ⊥
+    by : (committed : Option Committed) → committed ≡ None → IsLearnt (learnt_of_write (record p { committed = committed })) e → ⊥
     by None none (inl here) = here
     by None none (inr other) = other
     by (Some c) none told = absurd (cc (none))
 
--- what was known of the other end is told still, whatever more is known
-more_told : (job : Option Job) (before more : Option Wrote) (e : Entry) → IsWhatIsTold (learnt_far job before) e
-    → IsWhatIsTold (learnt_far job (written_there before more)) e
-more_told None before more e told = absurd told
-more_told (Some j) None more e told = absurd told
-more_told (Some j) (Some w) more e told = told
+-- what was known of the other end is learnt still, whatever more is known
+more_learnt : (job : Option Job) (before more : Option Wrote) (e : Entry) → IsOneLearnt (learnt_far job before) e
+    → IsOneLearnt (learnt_far job (written_there before more)) e
+more_learnt None before more e told = absurd told
+more_learnt (Some j) None more e told = absurd told
+more_learnt (Some j) (Some w) more e told = told
 
-pub told_still : (p q : Writing) (more : Option Wrote) → q.write ≡ p.write → q.committed ≡ p.committed → q.other ≡ written_there p.other more → (e : Entry)
-    → IsToldOf (learnt_of_write p) e → IsToldOf (learnt_of_write q) e
-told_still p q more write committed other e (inl here) =
-    inl (subst (λ w. IsWhatIsTold (learnt_here (record q { write = w })) e) (sym write)
-    (subst (λ c. IsWhatIsTold (learnt_here (record q { write = p.write; committed = c })) e) (sym committed) here))
-told_still p q more write committed other e (inr there) =
-    inr (subst (λ c. IsWhatIsTold (learnt_far (answered_job (record q { committed = c })) q.other) e) (sym committed)
-    (subst (λ o. IsWhatIsTold (learnt_far (answered_job p) o) e) (sym other) (more_told (answered_job p) p.other more e there)))
+pub still_learnt : (p q : Writing) (more : Option Wrote) → q.write ≡ p.write → q.committed ≡ p.committed → q.other ≡ written_there p.other more → (e : Entry)
+    → IsLearnt (learnt_of_write p) e → IsLearnt (learnt_of_write q) e
+still_learnt p q more write committed other e (inl here) =
+    inl (subst (λ w. IsOneLearnt (learnt_here (record q { write = w })) e) (sym write)
+    (subst (λ c. IsOneLearnt (learnt_here (record q { write = p.write; committed = c })) e) (sym committed) here))
+still_learnt p q more write committed other e (inr there) =
+    inr (subst (λ c. IsOneLearnt (learnt_far (answered_job (record q { committed = c })) q.other) e) (sym committed)
+    (subst (λ o. IsOneLearnt (learnt_far (answered_job p) o) e) (sym other) (more_learnt (answered_job p) p.other more e there)))
 
 -- and so is the first entry that is known to be written there
 far_by : (job : Option Job) (j : Job) → job ≡ Some j → (before : Option Wrote) → before ≡ None → (w : Wrote) (e : Entry) → w.entry ≡ Some e
-    → IsWhatIsTold (learnt_far job (written_there before (Some w))) e
+    → IsOneLearnt (learnt_far job (written_there before (Some w))) e
 far_by None j job before none w e entry = absurd (cc (job))
 far_by (Some k) j job (Some b) none w e entry = absurd (cc (none))
 far_by (Some k) j job None none w e entry =
-    subst (λ o. IsWhatIsTold (option_map (as_told (far_shard k) w.note) o) e) (sym entry) refl
+    subst (λ o. IsOneLearnt (option_map (as_learnt (far_shard k) w.note) o) e) (sym entry) refl
 
-pub told_far : (q : Writing) (j : Job) (before : Option Wrote) (w : Wrote) → answered_job q ≡ Some j → before ≡ None
-    → q.other ≡ written_there before (Some w) → (e : Entry) → w.entry ≡ Some e → IsToldOf (learnt_of_write q) e
-told_far q j before w job none other e entry =
-    inr (subst (λ o. IsWhatIsTold (learnt_far (answered_job q) o) e) (sym other) (far_by (answered_job q) j job before none w e entry))
+pub far_learnt : (q : Writing) (j : Job) (before : Option Wrote) (w : Wrote) → answered_job q ≡ Some j → before ≡ None
+    → q.other ≡ written_there before (Some w) → (e : Entry) → w.entry ≡ Some e → IsLearnt (learnt_of_write q) e
+far_learnt q j before w job none other e entry =
+    inr (subst (λ o. IsOneLearnt (learnt_far (answered_job q) o) e) (sym other) (far_by (answered_job q) j job before none w e entry))
 
 -- ---- a commit
 
 pub commit_adds : (asked : AskedWrite) (shard : ℕ) (old new : Stores) (retry : Bool) (entry : Option Entry) (told : LearntEntries)
-    → ((e : Entry) → entry ≡ Some e → IsToldOf told e) → StepsAs asked retry entry shard old new → AddsTold old.logs new.logs told
+    → ((e : Entry) → entry ≡ Some e → IsLearnt told e) → StepsAs asked retry entry shard old new → AddsLearnt old.logs new.logs told
 commit_adds asked shard old new false (Some e) told has steps = adds_gain old.logs new.logs shard e told steps.commits.gained (has e refl)
 commit_adds asked shard old new true (Some e) told has steps = adds_same old.logs new.logs told steps.1
 commit_adds asked shard old new false None told has steps = adds_same old.logs new.logs told steps.0.stays
@@ -229,27 +229,27 @@ module _ (s : Settings) (old new : World) where
       ∙ of_job s j m.owed (λ other shard position us. merge_of (master_log s old.keepers.told other) shard position us ≡ Some merged) m.of in_master
 
   module _ (told : LearntEntries) where
-    rests : Now.logs ≡ Was.logs → AddsTold Was.logs Now.logs told
+    rests : Now.logs ≡ Was.logs → AddsLearnt Was.logs Now.logs told
     rests same = adds_same Was.logs Now.logs told same
 
     news_adds : (j : ShardJob) (wrote : Option Entry) (m : MergesOwed s old.keepers.told new.keepers.told j) → wrote ≡ owed_entry s old.keepers j
-        → ((e : Entry) → wrote ≡ Some e → IsToldOf told e) → MergesNews (types_of s.schema) Was.logs Now.logs m.owed → AddsTold Was.logs Now.logs told
+        → ((e : Entry) → wrote ≡ Some e → IsLearnt told e) → MergesNews (types_of s.schema) Was.logs Now.logs m.owed → AddsLearnt Was.logs Now.logs told
     news_adds j wrote m wrote_is has (inl none) = rests none.1
     news_adds j wrote m wrote_is has (inr merges) = adds_gain Was.logs Now.logs m.owed.other merges.merged told merges.gained
         (has merges.merged (merged_is j wrote m merges.merged wrote_is merges.gained.0 merges.is))
 
-    taken_adds : (way : JobWay) (wrote : Wrote) → ((e : Entry) → wrote.entry ≡ Some e → IsToldOf told e) → TakesMerge true s way wrote old new
-        → AddsTold Was.logs Now.logs told
+    taken_adds : (way : JobWay) (wrote : Wrote) → ((e : Entry) → wrote.entry ≡ Some e → IsLearnt told e) → TakesMerge true s way wrote old new
+        → AddsLearnt Was.logs Now.logs told
     taken_adds way wrote has takes =
         let writes = takes.writes refl in
         news_adds way.job wrote.entry writes.merges writes.wrote_is has writes.merges.merges.merges
 
-    no_node : ChangesNoNode true old new → AddsTold Was.logs Now.logs told
+    no_node : ChangesNoNode true old new → AddsLearnt Was.logs Now.logs told
     no_node none = rests (same_logs s old.keepers new.keepers none.tables)
 
     left_adds : (way : JobWay) (why : ScheduledWhy) (wrote : Option Wrote)
-        → ((w : Wrote) → wrote ≡ Some w → (e : Entry) → w.entry ≡ Some e → IsToldOf told e) → LeavesJob true s way (left.Scheduled why wrote) old new
-        → AddsTold Was.logs Now.logs told
+        → ((w : Wrote) → wrote ≡ Some w → (e : Entry) → w.entry ≡ Some e → IsLearnt told e) → LeavesJob true s way (left.Scheduled why wrote) old new
+        → AddsLearnt Was.logs Now.logs told
     left_adds way why.LinkFault None has h = no_node h.2
     left_adds way why.LinkFault (Some wrote) has h = taken_adds way wrote (has wrote refl) h.2
     left_adds way why.KeeperFault None has h = no_node h.1
@@ -260,16 +260,16 @@ module _ (s : Settings) (old new : World) where
     left_adds way why.LogFull (Some wrote) has h = absurd h
     left_adds way why.Memory (Some wrote) has h = absurd h
 
-    -- of what a merge adds its answer tells, also where that was lost on its way back
-    abbrev TellsKnown : Result Wrote LeftOpen → Type 0
-    TellsKnown result = (w : Wrote) → known_of result ≡ Some w → (e : Entry) → w.entry ≡ Some e → IsToldOf told e
+    -- of what a merge adds its answer says, also where that was lost on its way back
+    abbrev SaysKnown : Result Wrote LeftOpen → Type 0
+    SaysKnown result = (w : Wrote) → known_of result ≡ Some w → (e : Entry) → w.entry ≡ Some e → IsLearnt told e
 
-    along_adds : (way : JobWay) (result : Result Wrote LeftOpen) → TellsKnown result → MergesAlong true s way result old new → AddsTold Was.logs Now.logs told
+    along_adds : (way : JobWay) (result : Result Wrote LeftOpen) → SaysKnown result → MergesAlong true s way result old new → AddsLearnt Was.logs Now.logs told
     along_adds way (Ok wrote) has merges = taken_adds way wrote (has wrote refl) merges.0
     along_adds way (Err (left.Scheduled why wrote)) has merges = left_adds way why wrote has merges
     along_adds way (Err (left.Refused reply)) has merges = absurd merges
 
-    pub merge_adds : (merging : Option NodeName) (sent : SentJob) (result : Result Wrote LeftOpen) → TellsKnown result
-        → MergesBy true s merging sent result old new → AddsTold Was.logs Now.logs told
+    pub merge_adds : (merging : Option NodeName) (sent : SentJob) (result : Result Wrote LeftOpen) → SaysKnown result
+        → MergesBy true s merging sent result old new → AddsLearnt Was.logs Now.logs told
     merge_adds (Some merging) sent result has merges = along_adds (job_way sent merging) result has merges
     merge_adds None sent result has none = rests (ap (λ (x : World). (stores_in s x.keepers.told).logs) none.1)

@@ -1,4 +1,4 @@
--- A read that was told as kept is answered the same where the next line asks it again.
+-- A read that was said to be kept is answered the same where the next line asks it again.
 use Rattle.std.proofs.Common.{arith, max, ◌≡◌, ◌≤◌, ◌||◌, ◌∙◌, ◌⊎◌, ℕ, true, false, List, Some, None, refl, sym, ap, subst, inl, inr}
 use Rattle.core_model.proofs.Places.{one_some}
 use Rattle.core_model.specs.Pens.{pens_of}

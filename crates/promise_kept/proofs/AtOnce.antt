@@ -22,11 +22,11 @@ use Rattle.promise_kept.proofs.Adding.{adds_same, none_in}
 use Rattle.promise_kept.proofs.Commits.{write_of}
 use Rattle.promise_kept.proofs.Entries.{HasFewTouches, entry_few}
 use Rattle.promise_kept.proofs.Going.{each_grows, grows_on, log_is}
-use Rattle.promise_kept.proofs.Learning.{AreFewTold, as_told, has_learnt, learnt_after}
+use Rattle.promise_kept.proofs.Learning.{AreFewLearnt, as_learnt, has_learnt, learnt_after}
 use Rattle.promise_kept.proofs.Refusing.{EndsRefused, stage_refuses}
 use Rattle.promise_kept.proofs.WriteStages.{IsRefusedSo, Ran, WritesSoFar}
 use Rattle.promise_kept.proofs.WritesOn.{writes_on}
-use Rattle.promise_kept.specs.Seen.{HasLast, HasWritten, IsAnsweredFor, IsReadFor, IsToldOf}
+use Rattle.promise_kept.specs.Seen.{HasLast, HasWritten, IsAnsweredFor, IsReadFor, IsLearnt}
 use Rattle.read_plan.specs.Ends.{EndsAt}
 use Rattle.read_plan.specs.Readings.{Reading}
 use Rattle.read_plan.specs.declared.standing.Standing.TheVariants.{Looking}
@@ -158,7 +158,7 @@ module _ (s : Settings) (began : Begun) (write : CheckedWrite) (start : Logs) (q
       (kept.sound (write_shard write.write)) e.position e stood.stands)
 
   noted : (shard : ℕ) (note : View) (entry : Option Entry) → IfSome entry (HasFewTouches shard)
-      → IfSome (option_map (as_told shard note) entry) (λ t. HasFewTouches t.shard t.entry)
+      → IfSome (option_map (as_learnt shard note) entry) (λ t. HasFewTouches t.shard t.entry)
   noted shard note None few = tt
   noted shard note (Some e) few = few
 
@@ -172,19 +172,19 @@ module _ (s : Settings) (began : Begun) (write : CheckedWrite) (start : Logs) (q
   here_few = here_by q.committed so.for_call.answered
 
 -- with its reply
-pub few_with : (reply : Reply) (q : Writing) → AreFewTold (learnt_of_write q) → AreFewTold (learnt_with reply (of.Write q))
+pub few_with : (reply : Reply) (q : Writing) → AreFewLearnt (learnt_of_write q) → AreFewLearnt (learnt_with reply (of.Write q))
 few_with (Called reply) q few = few
 few_with reply q few = record { here = tt; other = tt }
 
 -- the session of a write that was carried out has learnt of what it tells
-pub has_told : (s : Settings) (began : Begun) (write : CheckedWrite) (start : Logs) (q : Writing) (keepers : KeeperState)
+pub has_all_learnt : (s : Settings) (began : Begun) (write : CheckedWrite) (start : Logs) (q : Writing) (keepers : KeeperState)
     → WritesSoFar s began write start q keepers → (reply : Reply) (learnt : ℕ → List Entry) (c : Committed) → reply ≡ reply_after c q.job q.hops
-    → (e : Entry) → IsToldOf (learnt_of_write q) e
+    → (e : Entry) → IsLearnt (learnt_of_write q) e
     → Contains (learnt_after (author q.origin) (learnt_with reply (of.Write q)) learnt write.session) e
-has_told s began write start q keepers so reply learnt c reply_is e told =
+has_all_learnt s began write start q keepers so reply learnt c reply_is e told =
     subst (λ n. Contains (learnt_after (author q.origin) (learnt_with reply (of.Write q)) learnt n) e) (ap author so.for_call.origin_is)
     (has_learnt (author q.origin) (learnt_with reply (of.Write q)) learnt e
-    (subst (λ r. IsToldOf (learnt_with r (of.Write q)) e) (sym reply_is) told))
+    (subst (λ r. IsLearnt (learnt_with r (of.Write q)) e) (sym reply_is) told))
 
 -- a write of which nothing was done
 pub write_begins : (s : Settings) (keepers : KeeperState) (began : Begun) (write : CheckedWrite) (p : Writing) → p.write ≡ write.write

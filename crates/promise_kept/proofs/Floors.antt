@@ -55,7 +55,7 @@ none_given shard key (t ∷ ts) all apart = nothing (given_by key t) (version_le
     by true e = absurd (apart (ap key_shard ((same_key-Decides key t.key).0 e) ∙ all.0))
     by false e = refl
 
--- who was told of nothing has no floor
+-- who has learnt nothing has no floor
 pub floors_begin : FloorsAre [] [] []
 floors_begin = record { at = λ key. refl }
 

@@ -25,17 +25,17 @@ use Rattle.graph_model.specs.Log.{version}
 use Rattle.plain_promise.specs.Promise.{AreSameLogs, Begun, CallsAlone, EachGrows, Logs, Plain, ReadsRightly, SaysOfCall}
 use Rattle.plain_promise.specs.Promise.{SeenVersion, carried_out, went_on}
 use Rattle.promise_kept.proofs.Adding.{adds_same}
-use Rattle.promise_kept.proofs.AtOnce.{few_with, has_told, here_few, read_steps}
+use Rattle.promise_kept.proofs.AtOnce.{few_with, has_all_learnt, here_few, read_steps}
 use Rattle.promise_kept.proofs.Commits.{write_of}
 use Rattle.promise_kept.proofs.Entries.{HasFewTouches}
 use Rattle.promise_kept.proofs.Going.{grows_on, logs_grow, same_logs, settled_rests}
-use Rattle.promise_kept.proofs.Learning.{AreAllFloors, AreFewTold, learns_both, learnt_after, learnt_grows, others_few}
+use Rattle.promise_kept.proofs.Learning.{AreAllFloors, AreFewLearnt, learns_both, learnt_after, learnt_grows, others_few}
 use Rattle.promise_kept.proofs.ReadLemmas.{answer_last, answer_legal, answer_whole, read_reply_is}
 use Rattle.promise_kept.proofs.Refusing.{EndsRefused, end_refused, end_refuses, stage_refuses}
 use Rattle.promise_kept.proofs.Resting.{grows_then, held_rests, kept_then, seen_then}
 use Rattle.promise_kept.proofs.Saying.{began_as, held_read_says, held_write_says, plain_at}
-use Rattle.promise_kept.proofs.Seeing.{read_floors, saw_after, told_floors, uncarried_floors, write_floors}
-use Rattle.promise_kept.proofs.WriteEnds.{WasDone, acknowledged, all_told, write_reply_is}
+use Rattle.promise_kept.proofs.Seeing.{read_floors, saw_after, said_floors, uncarried_floors, write_floors}
+use Rattle.promise_kept.proofs.WriteEnds.{WasDone, acknowledged, each_learnt, write_reply_is}
 use Rattle.promise_kept.proofs.WriteStages.{IsRefusedSo, KeepsStage, WritesSoFar, ran_alone, ran_begins}
 use Rattle.promise_kept.proofs.WritesOn.{gives_up_on, refused_rests, writes_on}
 use Rattle.promise_kept.specs.Lines.{GoesOnUsable}
@@ -204,17 +204,17 @@ module _ (old new : Moment) (learnt : ℕ → List Entry) (saw : ℕ → List Se
       }),
     )
 
-    -- it goes on: its session is told of nothing yet
+    -- it goes on: its session learns nothing yet
     goes_so : (after : HeldPlan) (stage : Stage) → GoesOnHeld (replied.Plan (Next asked number stage)) number after (held_in old.core) reply (held_in new.core)
         → IsUnderWayFor s new.keepers (Then began) began.call after → CallsAlone (types_of s.schema) began.call Was Now.logs → StepKept began
     goes_so after stage goes under changes = record {
       learnt_now = learnt;
       more = nothing_more;
-      says = subst (λ r. SaysOfCall (types_of s.schema) began Was.logs r (After began learnt)) (sym goes.told) tt;
+      says = subst (λ r. SaysOfCall (types_of s.schema) began Was.logs r (After began learnt)) (sym goes.said) tt;
       changes = changes;
       seen = seen_then old new on Before learnt (saw_after began reply saw) held_now was
           (uncarried_floors learnt saw new.core.sessions (subst (AreAllFloors learnt saw) (sym goes.sessions) was.learnt) began reply
-          (ap carried_out goes.told))
+          (ap carried_out goes.said))
           (begun_sets (Some after) goes.changes.sets (λ plan is. held_on after plan under is));
     }
 
@@ -250,10 +250,10 @@ module _ (old new : Moment) (learnt : ℕ → List Entry) (saw : ℕ → List Se
     read_over query reader logs so right ends =
         let replies = read_reply_is q ends.ended so ends.over in
         ends_so Began is_plan.grows is_plan.settled holds learnt ends.takes.sets nothing_more
-        (told_floors Began number reply ends.ended learnt saw new.core.sessions ends.told
+        (said_floors Began number reply ends.ended learnt saw new.core.sessions ends.said
         (read_floors (pens_of new.core.fleet.stores) first read q ends.ended old.core.sessions new.core.sessions learnt saw query reader replies ends.learns
         was.learnt))
-        (subst (λ r. SaysOfCall (types_of s.schema) Began Was.logs r (After Began learnt)) (sym ends.told)
+        (subst (λ r. SaysOfCall (types_of s.schema) Began Was.logs r (After Began learnt)) (sym ends.said)
         (held_read_says (types_of s.schema) first read Was.logs (After Began learnt) ends.ended replies logs (right ends.ended ends.over) number)) logs
 
     -- ---- it ends in place of its next stage
@@ -398,7 +398,7 @@ module _ (old new : Moment) (learnt : ℕ → List Entry) (saw : ℕ → List Se
       write_is = write_so.for_call.write_is;
       origin_is = write_so.for_call.origin_is;
       answered = IfSome_then q.committed write_so.for_call.answered answered_on;
-      added = all_told s BeganWrite write Was.logs q new.keepers write_so;
+      added = each_learnt s BeganWrite write Was.logs q new.keepers write_so;
       due = write_so.for_call.due;
     }
 
@@ -413,10 +413,10 @@ module _ (old new : Moment) (learnt : ℕ → List Entry) (saw : ℕ → List Se
     far_by over open_still (inr gives) =
         (let e : None ≡ Some _ = sym open_still ∙ ap (λ (x : Writing). x.refused) gives.gone in absurd (cc))
 
-    few_told : (ended : Reply) → next_stage (of.Write q) ≡ None → IsRefusedSo Was.logs write Now.logs ended ⊎ WasDone q ended
-        → AreFewTold (learnt_with ended (of.Write q))
-    few_told ended over (inl refused) = subst (λ r. AreFewTold (learnt_with r (of.Write q))) (sym refused.1) (record { here = tt; other = tt })
-    few_told ended over (inr done) = few_with ended q (record {
+    few_learnt : (ended : Reply) → next_stage (of.Write q) ≡ None → IsRefusedSo Was.logs write Now.logs ended ⊎ WasDone q ended
+        → AreFewLearnt (learnt_with ended (of.Write q))
+    few_learnt ended over (inl refused) = subst (λ r. AreFewLearnt (learnt_with r (of.Write q))) (sym refused.1) (record { here = tt; other = tt })
+    few_learnt ended over (inr done) = few_with ended q (record {
       here = few_here;
       other = far_by over done.unrefused does;
     })
@@ -434,11 +434,11 @@ module _ (old new : Moment) (learnt : ℕ → List Entry) (saw : ℕ → List Se
         let saw_now = saw_after BeganWrite reply saw in
         ends_so BeganWrite is_plan.grows is_plan.settled holds learnt_now ends.takes.sets (learnt_grows who told learnt)
         (write_floors learnt_now saw new.core.sessions
-        (learns_both who told old.core.sessions new.core.sessions learnt saw (few_told ended over replies) ends.learns was.learnt) first write reply)
-        (subst (λ r. SaysOfCall (types_of s.schema) BeganWrite Was.logs r (After BeganWrite learnt_now)) (sym ends.told)
+        (learns_both who told old.core.sessions new.core.sessions learnt saw (few_learnt ended over replies) ends.learns was.learnt) first write reply)
+        (subst (λ r. SaysOfCall (types_of s.schema) BeganWrite Was.logs r (After BeganWrite learnt_now)) (sym ends.said)
         (held_write_says s old.keepers.told new.keepers.told first write learnt_now saw_now held_now settled q ended
         (λ c committed_is unrefused reply_is. acknowledged s BeganWrite write Was.logs q new.keepers write_so over c committed_is unrefused
-        learnt_now saw_now held_now settled (has_told s BeganWrite write Was.logs q new.keepers write_so ended learnt c reply_is))
+        learnt_now saw_now held_now settled (has_all_learnt s BeganWrite write Was.logs q new.keepers write_so ended learnt c reply_is))
         number replies)) write_changes
 
   -- ---- whatever the call

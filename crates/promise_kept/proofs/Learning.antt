@@ -23,7 +23,7 @@ use Rattle.graph_model.specs.Log.{entry_at}
 use Rattle.plain_promise.specs.Promise.{SeenVersion}
 use Rattle.promise_kept.proofs.Entries.{HasFewTouches, entry_few}
 use Rattle.promise_kept.proofs.Floors.{floors_learn, floors_see}
-use Rattle.promise_kept.specs.Seen.{FloorsAre, IsToldOf, IsWhatIsTold, floors_of}
+use Rattle.promise_kept.specs.Seen.{FloorsAre, IsLearnt, IsOneLearnt, floors_of}
 use Rattle.shard_log.specs.View.{View}
 use Rattle.shard_tables.specs.StoreView.{Store}
 use Rattle.shard_tables.specs.declared.writes.Wrote.{Wrote}
@@ -113,10 +113,10 @@ learns_alone number from to old learnt learnt_now saw saw_now found learns were 
 
 -- ---- one entry is learnt
 
--- the entry that is told, if any
-abbrev pub told_entry : Option LearntEntry → List Entry
-told_entry None = []
-told_entry (Some t) = t.entry ∷ []
+-- the entry that is learnt, if any
+abbrev pub entry_learnt : Option LearntEntry → List Entry
+entry_learnt None = []
+entry_learnt (Some t) = t.entry ∷ []
 
 -- a session has learnt of these besides
 abbrev pub learnt_more : ℕ → List Entry → (ℕ → List Entry) → ℕ → List Entry
@@ -167,25 +167,25 @@ none_more number n learnt = elim (cases_Bool (n == number)) [ inl is ↦ rw is (
 
 learns_through : (number : ℕ) (told : Option LearntEntry) (old new : List Session) (learnt : ℕ → List Entry) (saw : ℕ → List SeenVersion)
     → IfSome told (λ t. HasFewTouches t.shard t.entry) → LearnsThrough number told old new → AreAllFloors learnt saw old
-    → AreAllFloors (learnt_more number (told_entry told) learnt) saw new
+    → AreAllFloors (learnt_more number (entry_learnt told) learnt) saw new
 learns_through number None old new learnt saw few learns were n =
     subst (λ es. FloorsAre es (saw n) (floors_of new n)) (sym (none_more number n learnt))
     (subst (λ sessions. FloorsAre (learnt n) (saw n) (floors_of sessions n)) (sym learns) (were n))
 learns_through number (Some t) old new learnt saw few learns were n = session_learns number t old new learnt saw few learns were n
 
--- each entry that is told has few touches, on its shard
-pub record AreFewTold (told : LearntEntries) : Type 0 where
+-- each entry that is learnt has few touches, on its shard
+pub record AreFewLearnt (told : LearntEntries) : Type 0 where
   pub here : IfSome told.here (λ t. HasFewTouches t.shard t.entry)
   pub other : IfSome told.other (λ t. HasFewTouches t.shard t.entry)
 
 -- what sessions have learnt of after that
 abbrev pub learnt_after : ℕ → LearntEntries → (ℕ → List Entry) → ℕ → List Entry
-learnt_after number told learnt = learnt_more number (told_entry told.other) (learnt_more number (told_entry told.here) learnt)
+learnt_after number told learnt = learnt_more number (entry_learnt told.other) (learnt_more number (entry_learnt told.here) learnt)
 
-pub learns_both : (number : ℕ) (told : LearntEntries) (old new : List Session) (learnt : ℕ → List Entry) (saw : ℕ → List SeenVersion) → AreFewTold told
+pub learns_both : (number : ℕ) (told : LearntEntries) (old new : List Session) (learnt : ℕ → List Entry) (saw : ℕ → List SeenVersion) → AreFewLearnt told
     → LearnsBoth number told old new → AreAllFloors learnt saw old → AreAllFloors (learnt_after number told learnt) saw new
 learns_both number told old new learnt saw few learns were =
-    learns_through number told.other learns.between new (learnt_more number (told_entry told.here) learnt) saw few.other learns.other
+    learns_through number told.other learns.between new (learnt_more number (entry_learnt told.here) learnt) saw few.other learns.other
     (learns_through number told.here old learns.between learnt saw few.here learns.here were)
 
 -- who has learnt of an entry stays so
@@ -198,30 +198,30 @@ more_after number n more learnt = elim (cases_Bool (n == number)) [
 pub learnt_grows : (number : ℕ) (told : LearntEntries) (learnt : ℕ → List Entry) (n : ℕ)
     → (es : List Entry) × (learnt_after number told learnt n ≡ learnt n ++ es)
 learnt_grows number told learnt n =
-    let first = more_after number n (told_entry told.here) learnt in
-    let second = more_after number n (told_entry told.other) (learnt_more number (told_entry told.here) learnt) in
+    let first = more_after number n (entry_learnt told.here) learnt in
+    let second = more_after number n (entry_learnt told.other) (learnt_more number (entry_learnt told.here) learnt) in
     (first.0 ++ second.0, second.1 ∙ ap (λ es. es ++ second.0) first.1 ∙ append_assoc (learnt n) first.0 second.0)
 
--- and the session of a write has learnt of each entry that it is told of
-what_is_told : (told : Option LearntEntry) (e : Entry) → IsWhatIsTold told e → Contains (told_entry told) e
-what_is_told None e is = absurd is
-what_is_told (Some t) e is = (0, omega arith, is)
+-- and the session of a write has learnt of each entry that it wrote
+what_is_learnt : (told : Option LearntEntry) (e : Entry) → IsOneLearnt told e → Contains (entry_learnt told) e
+what_is_learnt None e is = absurd is
+what_is_learnt (Some t) e is = (0, omega arith, is)
 
-pub has_learnt : (number : ℕ) (told : LearntEntries) (learnt : ℕ → List Entry) (e : Entry) → IsToldOf told e
+pub has_learnt : (number : ℕ) (told : LearntEntries) (learnt : ℕ → List Entry) (e : Entry) → IsLearnt told e
     → Contains (learnt_after number told learnt number) e
 has_learnt number told learnt e is =
-    let first = learnt_more number (told_entry told.here) learnt in
-    subst (λ es. Contains es e) (sym (more_here number (told_entry told.other) first)) (elim is [
-      | inl here ↦ Contains-append_left (first number) (told_entry told.other) e
-          (subst (λ es. Contains es e) (sym (more_here number (told_entry told.here) learnt))
-          (Contains-append_right (learnt number) (told_entry told.here) e (what_is_told told.here e here)))
-      | inr other ↦ Contains-append_right (first number) (told_entry told.other) e (what_is_told told.other e other)
+    let first = learnt_more number (entry_learnt told.here) learnt in
+    subst (λ es. Contains es e) (sym (more_here number (entry_learnt told.other) first)) (elim is [
+      | inl here ↦ Contains-append_left (first number) (entry_learnt told.other) e
+          (subst (λ es. Contains es e) (sym (more_here number (entry_learnt told.here) learnt))
+          (Contains-append_right (learnt number) (entry_learnt told.here) e (what_is_learnt told.here e here)))
+      | inr other ↦ Contains-append_right (first number) (entry_learnt told.other) e (what_is_learnt told.other e other)
     ])
 
--- ---- what is told has few touches
+-- ---- what is learnt has few touches
 
-abbrev pub as_told : ℕ → View → Entry → LearntEntry
-as_told shard note e = record { shard = shard; entry = e; note = note }
+abbrev pub as_learnt : ℕ → View → Entry → LearntEntry
+as_learnt shard note e = record { shard = shard; entry = e; note = note }
 
 module _ (s : Settings) (tables : Tables) (stores : List Store) (regions : HaveMasterRegions s) (are : AreStoresOf true s tables stores) where
   seen_few : (shard : ℕ) (note : View) (e : Entry) → shard < s.shards → IsSeenEntry (pens_of stores) shard note e → HasFewTouches shard e
@@ -234,7 +234,7 @@ module _ (s : Settings) (tables : Tables) (stores : List Store) (regions : HaveM
 
   other_by : (j : Job) (w : Wrote) (entry : Option Entry)
       → IfSome entry (λ e. (far_shard j < s.shards) × IsSeenEntry (pens_of stores) (far_shard j) w.note e)
-      → IfSome (option_map (λ e. as_told (far_shard j) w.note e) entry) (λ t. HasFewTouches t.shard t.entry)
+      → IfSome (option_map (λ e. as_learnt (far_shard j) w.note e) entry) (λ t. HasFewTouches t.shard t.entry)
   other_by j w None stands = tt
   other_by j w (Some e) stands = seen_few (far_shard j) w.note e stands.0 stands.1
 

@@ -57,9 +57,9 @@ pub numbered_shows : (number : ℕ) (reply : Reply) → carried_out (numbered_re
 numbered_shows number (Called reply) = refl
 numbered_shows number other = refl
 
-pub told_floors : (began : Begun) (number : ℕ) (reply ended : Reply) (learnt : ℕ → List Entry) (saw : ℕ → List SeenVersion) (sessions : List Session)
+pub said_floors : (began : Begun) (number : ℕ) (reply ended : Reply) (learnt : ℕ → List Entry) (saw : ℕ → List SeenVersion) (sessions : List Session)
     → reply ≡ numbered_reply number ended → AreAllFloors learnt (saw_after began ended saw) sessions → AreAllFloors learnt (saw_after began reply saw) sessions
-told_floors began number reply ended learnt saw sessions told are =
+said_floors began number reply ended learnt saw sessions told are =
     subst (λ o. AreAllFloors learnt (λ n. seen_with (Some began) o n (saw n)) sessions) (sym (ap carried_out told ∙ numbered_shows number ended)) are
 
 -- one that is refused teaches nothing

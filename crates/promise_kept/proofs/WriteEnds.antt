@@ -1,4 +1,4 @@
--- A write that is over: what its reply says stands, or its refusal tells where its entry stands.
+-- A write that is over: what its reply says stands, or its refusal says where its entry stands.
 use Rattle.std.proofs.Common.{◌≡◌, ◌∙◌, ◌⊎◌, ◌∷◌, ◌++◌, [], ℕ, Bool, List, Option, Some, None, refl, sym, ap, subst, inl, inr}
 use Rattle.std.proofs.lemmas.List.Elements.{Contains-append_cases}
 use Rattle.std.specs.Option.{option_map}
@@ -7,10 +7,10 @@ use Rattle.core_model.proofs.Places.{one_some}
 use Rattle.core_model.specs.Stores.{stores_in}
 use Rattle.core_plans.specs.Held.{learnt_of_write, next_stage}
 use Rattle.core_plans.specs.declared.held.HeldPlan.TheVariants.{Write as OfWrite}
-use Rattle.plain_promise.specs.Promise.{Begun, FoundNothing, IsAcknowledged, Logs, SeenVersion, StandsAsLearnt, TellsId, gained}
-use Rattle.promise_kept.proofs.Adding.{gained_past, told_here}
+use Rattle.plain_promise.specs.Promise.{Begun, FoundNothing, IsAcknowledged, Logs, SeenVersion, StandsAsLearnt, SaysId, gained}
+use Rattle.promise_kept.proofs.Adding.{gained_past, here_learnt}
 use Rattle.promise_kept.proofs.WriteStages.{IsRefusedSo, WritesSoFar}
-use Rattle.promise_kept.specs.Seen.{HasJobOf, HasWritten, IsAnsweredFor, IsToldOf, OwesNothing}
+use Rattle.promise_kept.specs.Seen.{HasJobOf, HasWritten, IsAnsweredFor, IsLearnt, OwesNothing}
 use Rattle.replies.specs.declared.calls.InverseEnd.TheVariants as inverse
 use Rattle.replies.specs.declared.calls.WriteKind.{WriteKind}
 use Rattle.replies.specs.declared.calls.WriteKind.TheVariants as kind
@@ -39,35 +39,35 @@ use Rattle.write_plan.specs.declared.progress.OtherEnd.{OtherEnd}
 use Rattle.write_plan.specs.declared.progress.OtherEnd.TheVariants.{Due, Ended, Merged, Open}
 use Rattle.write_plan.specs.declared.stage.WriteStage.{WriteStage}
 
--- ---- what is told of the object that was added
+-- ---- what is said of the object that was added
 
-abbrev IsTold : WriteKind → List Touch → Type 0
-IsTold (kind.ObjAdd id) ts = IsSomeAnd (slice_get ts 0) (λ t. t.key ≡ Obj id)
-IsTold other ts = ⊤
+abbrev IsIdSaid : WriteKind → List Touch → Type 0
+IsIdSaid (kind.ObjAdd id) ts = IsSomeAnd (slice_get ts 0) (λ t. t.key ≡ Obj id)
+IsIdSaid other ts = ⊤
 
-told_id : (told : WriteKind) (e : Entry) → IsTold told e.touches → TellsId told e
-told_id (kind.ObjAdd id) e h = h
-told_id other e h = tt
+said_id : (told : WriteKind) (e : Entry) → IsIdSaid told e.touches → SaysId told e
+said_id (kind.ObjAdd id) e h = h
+said_id other e h = tt
 
 added_id : (shard : ℕ) (otype : OType) (payload : List Pair) (ts : List Touch) (told : WriteKind) → Names (ObjAdd shard otype payload) ts
-    → option_map kind.ObjAdd (first_put ts) ≡ Some told → IsTold told ts
+    → option_map kind.ObjAdd (first_put ts) ≡ Some told → IsIdSaid told ts
 added_id shard otype payload [] told named is = absurd named
 added_id shard otype payload (t ∷ ts) told named is =
     let put : put_by t.key t.change ≡ Some named.0 = ap (λ k. put_by k t.change) named.2 ∙ ap (put_by (Obj named.0)) named.3 in
     let same : Some (kind.ObjAdd named.0) ≡ Some told = ap (option_map kind.ObjAdd) (sym put) ∙ is in
-    subst (λ k. IsTold k (t ∷ ts)) (one_some (kind.ObjAdd named.0) told same) named.2
+    subst (λ k. IsIdSaid k (t ∷ ts)) (one_some (kind.ObjAdd named.0) told same) named.2
 
-tells_id : (write : Write) (e : Entry) (told : WriteKind) → FitsWrite e write → kind_said write (Some e) ≡ Some told → TellsId told e
-tells_id (ObjAdd shard otype payload) e told fits is = told_id told e (added_id shard otype payload e.touches told fits.named is)
-tells_id (ObjUpdate id payload) e told fits is = subst (λ k. TellsId k e) (one_some kind.ObjUpdate told is) tt
-tells_id (ObjDelete id) e told fits is = subst (λ k. TellsId k e) (one_some kind.ObjDelete told is) tt
-tells_id (AssocAdd id1 atype id2 time payload) e told fits is = subst (λ k. TellsId k e) (one_some kind.AssocAdd told is) tt
-tells_id (AssocDelete id1 atype id2) e told fits is = subst (λ k. TellsId k e) (one_some kind.AssocDelete told is) tt
-tells_id (AssocChangeType id1 atype id2 newtype) e told fits is = subst (λ k. TellsId k e) (one_some kind.AssocChangeType told is) tt
+says_id : (write : Write) (e : Entry) (told : WriteKind) → FitsWrite e write → kind_said write (Some e) ≡ Some told → SaysId told e
+says_id (ObjAdd shard otype payload) e told fits is = said_id told e (added_id shard otype payload e.touches told fits.named is)
+says_id (ObjUpdate id payload) e told fits is = subst (λ k. SaysId k e) (one_some kind.ObjUpdate told is) tt
+says_id (ObjDelete id) e told fits is = subst (λ k. SaysId k e) (one_some kind.ObjDelete told is) tt
+says_id (AssocAdd id1 atype id2 time payload) e told fits is = subst (λ k. SaysId k e) (one_some kind.AssocAdd told is) tt
+says_id (AssocDelete id1 atype id2) e told fits is = subst (λ k. SaysId k e) (one_some kind.AssocDelete told is) tt
+says_id (AssocChangeType id1 atype id2 newtype) e told fits is = subst (λ k. SaysId k e) (one_some kind.AssocChangeType told is) tt
 
--- ---- what is told of the other end
+-- ---- what is said of the other end
 
--- where nothing is left to do and the inverse is told as written, the entry owes nothing
+-- where nothing is left to do and the inverse is said to be written, the entry owes nothing
 nothing_owed : (job : Option Job) (at : OtherEnd) (other : Bool) (next : WriteStage)
     → stage_said (unwrap_or (option_and_then (λ _. job_stage at) job) next) ≡ None → inverse_said other at ≡ inverse.Written → OwesNothing job at
 nothing_owed None at other next over told = tt
@@ -111,8 +111,8 @@ module _ (s : Settings) (began : Begun) (call : CheckedWrite) (start : Logs) (q 
   write_reply_is reply is = reply_cases start call Now.logs q q.refused q.committed reply refl refl so.refused is
 
   -- each entry that its lines have added it tells
-  pub all_told : (e : Entry) → Contains (began.added ++ gained start Now.logs) e → IsToldOf (learnt_of_write q) e
-  all_told e has = elim (Contains-append_cases began.added (gained start Now.logs) e has) [
+  pub each_learnt : (e : Entry) → Contains (began.added ++ gained start Now.logs) e → IsLearnt (learnt_of_write q) e
+  each_learnt e has = elim (Contains-append_cases began.added (gained start Now.logs) e has) [
     | inl before ↦ so.for_call.added e before
     | inr now ↦ (let past = gained_past start Now.logs e now in so.adds past.shard past.position e past.stands past.past)
   ]
@@ -141,17 +141,17 @@ module _ (s : Settings) (began : Begun) (call : CheckedWrite) (start : Logs) (q 
       record {
         stands = stood;
         position_is = refl;
-        id_is = tells_id call.write e c.kind stood.fits kind_is;
+        id_is = says_id call.write e c.kind stood.fits kind_is;
         other_ends = λ told. job.there (nothing_owed c.wrote.job q.job (has_other c) (back_stage c.passed q.back) left_over told);
       },
       has e refl,
     )
 
     pub acknowledged : (learnt : ℕ → List Entry) (saw : ℕ → List SeenVersion) (held : ℕ → Option Begun) (settled : Option Logs)
-        → ((e : Entry) → IsToldOf (learnt_of_write q) e → Contains (learnt call.session) e)
+        → ((e : Entry) → IsLearnt (learnt_of_write q) e → Contains (learnt call.session) e)
         → IsAcknowledged (types_of s.schema) began call (answer_of c q) start (record { stores = Now; learnt = learnt; seen = saw; held = held; settled = settled })
     acknowledged learnt saw held settled has = record {
       done = done_by (learnt call.session) c.wrote.retry c.wrote.entry answered_now.written answered_now.job answered_now.kind_is
-          (λ e entry. has e (told_here q c committed_is e entry));
-      learns = λ e added. has e (all_told e added);
+          (λ e entry. has e (here_learnt q c committed_is e entry));
+      learns = λ e added. has e (each_learnt e added);
     }

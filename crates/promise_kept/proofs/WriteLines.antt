@@ -9,7 +9,7 @@ use Rattle.core_plans.specs.WholeCalls.{CarriesOut}
 use Rattle.core_plans.specs.declared.held.HeldPlan.{HeldPlan}
 use Rattle.core_plans.specs.declared.held.HeldPlan.TheVariants as of
 use Rattle.plain_promise.specs.Promise.{Begun, Logs, Plain, SeenVersion, begun_now}
-use Rattle.promise_kept.proofs.AtOnce.{WritesThrough, few_with, has_told, here_few, write_begins, writes_at_once}
+use Rattle.promise_kept.proofs.AtOnce.{WritesThrough, few_with, has_all_learnt, here_few, write_begins, writes_at_once}
 use Rattle.promise_kept.proofs.Commits.{write_of}
 use Rattle.promise_kept.proofs.Going.{grows_same}
 use Rattle.promise_kept.proofs.Learning.{learns_both, learnt_after, learnt_grows, others_few}
@@ -71,7 +71,7 @@ module _ (old new : Moment) (learnt : ℕ → List Entry) (saw : ℕ → List Se
       call_keeps old new learnt saw held settled was (call.Write write) reply line learnt_now (learnt_grows number told learnt)
       (write_says s old.keepers.told new.keepers.told Began write learnt_now saw_now held settled q reply
       (λ c committed_is unrefused reply_is. acknowledged s Began write Was.logs q new.keepers so none c committed_is unrefused learnt_now saw_now held settled
-      (has_told s Began write Was.logs q new.keepers so reply learnt c reply_is))
+      (has_all_learnt s Began write Was.logs q new.keepers so reply learnt c reply_is))
       (write_reply_is s Began write Was.logs q new.keepers so reply over))
       (ran_alone (types_of s.schema) Was.logs (write_of write) (stores_in s new.keepers.told).logs q.committed q.job so.ran)
       (seen_then old new line.on Before learnt_now saw_now held was

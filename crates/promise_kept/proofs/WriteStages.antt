@@ -19,7 +19,7 @@ use Rattle.graph_model.specs.Records.{HasStamp}
 use Rattle.graph_model.specs.Soundness.{EdgeUpdate}
 use Rattle.node_name.specs.declared.NodeName.{NodeName}
 use Rattle.plain_promise.specs.Promise.{Begun, EachGrows, Logs, refused_at}
-use Rattle.promise_kept.proofs.Adding.{AddsTold}
+use Rattle.promise_kept.proofs.Adding.{AddsLearnt}
 use Rattle.promise_kept.proofs.Commits.{write_of}
 use Rattle.promise_kept.proofs.Going.{same_logs}
 use Rattle.promise_kept.specs.Seen.{IsWriteFor}
@@ -112,7 +112,7 @@ module _ (types : EdgeTypes) (start : Logs) (w : ClientWrite) where
   ran_alone now None at ran = inl ran
   ran_alone now (Some c) at ran = by_alone now c.wrote.entry at ran
 
--- ---- what a refusal tells
+-- ---- what a refusal says
 
 -- with position 0 the logs are as they were, and at another the write's entry stands
 abbrev pub RefusesHere : Logs → CheckedWrite → Logs → ℕ → Type 0
@@ -133,12 +133,12 @@ stands_at start call now e (suc n) is stood = (e, stood, is)
 
 -- ---- a write so far
 
--- it is under way for its call; what was made of the logs since these, with each entry that was added one that its session is told; and what its refusal
+-- it is under way for its call; what was made of the logs since these, with each entry that was added one that its session learns; and what its refusal
 -- tells
 pub record WritesSoFar (s : Settings) (began : Begun) (call : CheckedWrite) (start : Logs) (p : Writing) (keepers : KeeperState) : Type 0 where
   pub for_call : IsWriteFor s keepers began call p
   pub ran : Ran (types_of s.schema) start (write_of call) (stores_in s keepers.told).logs p.committed p.job
-  pub adds : AddsTold start (stores_in s keepers.told).logs (learnt_of_write p)
+  pub adds : AddsLearnt start (stores_in s keepers.told).logs (learnt_of_write p)
   pub refused : IfSome p.refused (IsRefusedSo start call (stores_in s keepers.told).logs)
 
 -- what a stage leaves of the stores: their logs grew, and they are sound and covered

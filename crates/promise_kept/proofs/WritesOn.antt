@@ -17,13 +17,13 @@ use Rattle.core_steps.specs.World.{World}
 use Rattle.core_steps.specs.Writes.{StepsAs, asked_of_log}
 use Rattle.node_name.specs.declared.NodeName.{NodeName}
 use Rattle.plain_promise.specs.Promise.{Begun, EachGrows, Logs, refused_at}
-use Rattle.promise_kept.proofs.Adding.{AddsTold, adds_on, adds_same, commit_adds, merge_adds, none_told, told_far, told_here, told_still}
+use Rattle.promise_kept.proofs.Adding.{AddsLearnt, adds_on, adds_same, commit_adds, merge_adds, none_learnt, far_learnt, here_learnt, still_learnt}
 use Rattle.promise_kept.proofs.Commits.{commit_job, commit_written, write_of}
 use Rattle.promise_kept.proofs.Going.{same_logs}
 use Rattle.promise_kept.proofs.Staying.{answered_stays}
 use Rattle.promise_kept.proofs.WriteStages.{IsRefusedSo, KeepsStage, Ran, RanBy, RanEntry, RefusesHere, WritesSoFar, commit_ran, end_same, end_writes}
 use Rattle.promise_kept.proofs.WriteStages.{ended_there, merges_by, never_refused, open_stage, plan_write, ran_merges, refuses_write, stands_at}
-use Rattle.promise_kept.specs.Seen.{HasJobOf, HasWritten, IsAnsweredFor, IsToldOf, OwesNothing}
+use Rattle.promise_kept.specs.Seen.{HasJobOf, HasWritten, IsAnsweredFor, IsLearnt, OwesNothing}
 use Rattle.replies.specs.declared.calls.ScheduledWhy.{ScheduledWhy}
 use Rattle.replies.specs.declared.refusals.NodeRefused.TheVariants.{NodeDown}
 use Rattle.replies.specs.declared.refusals.Refusal.{Refusal}
@@ -88,9 +88,9 @@ module _ (s : Settings) (stores : Stores) (began : Begun) (call : CheckedWrite) 
   entry_of_job (Some c) answered is = by_entry c c.wrote.entry refl answered.job is
 
 -- the position of an entry, where there is one, is that of the refusal
-told_position : (faults : ℕ) (entry : Option Entry) → refused_at (Store (LinkFault faults (when_of entry))) ≡ entry_position entry
-told_position faults None = refl
-told_position faults (Some e) = refl
+said_position : (faults : ℕ) (entry : Option Entry) → refused_at (Store (LinkFault faults (when_of entry))) ≡ entry_position entry
+said_position faults None = refl
+said_position faults (Some e) = refl
 
 down_position : (node : NodeName) (entry : Option Entry) → refused_at (Node (NodeDown node (when_of entry))) ≡ entry_position entry
 down_position node None = refl
@@ -140,25 +140,25 @@ module _ (s : Settings) (p q : Writing) (old new : World) (began : Begun) (call 
       ap (λ (write : Write). record { shard = write_shard write; epoch = 0; origin = p.origin; asked = write }) so.for_call.write_is
       ∙ ap (λ (origin : Origin). record { shard = write_shard call.write; epoch = 0; origin = origin; asked = call.write }) so.for_call.origin_is
 
-  -- what a write tells then: all that it told before, and each entry that the stage added; and of the other end nothing while its job is due
-  record TellsOn (r : Writing) : Type 0 where
-    still : (e : Entry) → IsToldOf (learnt_of_write p) e → IsToldOf (learnt_of_write r) e
-    adds : AddsTold Was.logs Now.logs (learnt_of_write r)
+  -- what is learnt of a write then: all that was learnt before, and each entry that the stage added; and of the other end nothing while its job is due
+  record LearnsOn (r : Writing) : Type 0 where
+    still : (e : Entry) → IsLearnt (learnt_of_write p) e → IsLearnt (learnt_of_write r) e
+    adds : AddsLearnt Was.logs Now.logs (learnt_of_write r)
     due : r.job ≡ Due → r.other ≡ None
 
   -- so it does where nothing was added, and nothing is known that wasn't
-  tells_same : (r : Writing) → r.write ≡ p.write → r.committed ≡ p.committed → r.other ≡ written_there p.other None → (r.job ≡ Due → r.other ≡ None)
-      → Now.logs ≡ Was.logs → TellsOn r
-  tells_same r write committed other due same = record {
-    still = told_still p r None write committed other;
+  learns_same : (r : Writing) → r.write ≡ p.write → r.committed ≡ p.committed → r.other ≡ written_there p.other None → (r.job ≡ Due → r.other ≡ None)
+      → Now.logs ≡ Was.logs → LearnsOn r
+  learns_same r write committed other due same = record {
+    still = still_learnt p r None write committed other;
     adds = adds_same Was.logs Now.logs (learnt_of_write r) same;
     due = due;
   }
 
-  told_on : (r : Writing) → TellsOn r → (e : Entry) → Contains began.added e → IsToldOf (learnt_of_write r) e
-  told_on r tells e has = tells.still e (so.for_call.added e has)
+  on_learnt : (r : Writing) → LearnsOn r → (e : Entry) → Contains began.added e → IsLearnt (learnt_of_write r) e
+  on_learnt r tells e has = tells.still e (so.for_call.added e has)
 
-  adds_then : (r : Writing) → TellsOn r → AddsTold start Now.logs (learnt_of_write r)
+  adds_then : (r : Writing) → LearnsOn r → AddsLearnt start Now.logs (learnt_of_write r)
   adds_then r tells = adds_on start Was.logs Now.logs (learnt_of_write p) (learnt_of_write r) keeps.grows tells.still so.adds tells.adds
 
   same_other : (other : Option Wrote) → other ≡ written_there other None
@@ -221,11 +221,11 @@ module _ (s : Settings) (p q : Writing) (old new : World) (began : Begun) (call 
       abbrev taken : Writing
       taken = after_stage p (came.Commit (Ok (with_notes is.committed))) hops
 
-      commit_tells : TellsOn taken
-      commit_tells = record {
-        still = λ e told. absurd (none_told p none e told);
+      commit_learns : LearnsOn taken
+      commit_learns = record {
+        still = λ e told. absurd (none_learnt p none e told);
         adds = commit_adds (asked_of_log s old.keepers (call_of_plan p)) (write_shard p.write) Was Now wrote.retry wrote.entry (learnt_of_write taken)
-            (λ e entry. told_here taken is.committed refl e entry) steps;
+            (λ e entry. here_learnt taken is.committed refl e entry) steps;
         due = so.for_call.due;
       }
 
@@ -235,11 +235,11 @@ module _ (s : Settings) (p q : Writing) (old new : World) (began : Begun) (call 
           write_is = so.for_call.write_is;
           origin_is = so.for_call.origin_is;
           answered = subst (λ job. IsAnsweredFor s Now began call job is.committed) (sym due) commit_answered;
-          added = told_on taken commit_tells;
-          due = commit_tells.due;
+          added = on_learnt taken commit_learns;
+          due = commit_learns.due;
         };
         ran = subst (λ job. RanBy types start w Now.logs wrote.entry job) (sym due) commit_ran_here;
-        adds = adds_then taken commit_tells;
+        adds = adds_then taken commit_learns;
         refused = unrefused Commit at (λ same. absurd (cc)) taken refl;
       })
 
@@ -248,13 +248,13 @@ module _ (s : Settings) (p q : Writing) (old new : World) (began : Begun) (call 
         → q ≡ after_stage p (came.Commit (Err (Refused refusal))) took → So q
     refused_on refusal took position_is same then =
         let gone = after_stage p (came.Commit (Err (Refused refusal))) took in
-        let tells = tells_same gone refl refl (same_other p.other) so.for_call.due same in
+        let tells = learns_same gone refl refl (same_other p.other) so.for_call.due same in
         subst So (sym then) (record {
           for_call = record {
             write_is = so.for_call.write_is;
             origin_is = so.for_call.origin_is;
             answered = subst (λ c. IfSome c (IsAnsweredFor s Now began call p.job)) (sym none) tt;
-            added = told_on gone tells;
+            added = on_learnt gone tells;
             due = tells.due;
           };
           ran = subst (λ c. Ran types start w Now.logs c p.job) (sym none) (same ∙ ran_none);
@@ -286,7 +286,7 @@ module _ (s : Settings) (p q : Writing) (old new : World) (began : Begun) (call 
   rests_on : (r : Writing) → r.write ≡ p.write → r.origin ≡ p.origin → r.committed ≡ p.committed → r.job ≡ p.job → r.other ≡ p.other → Now.logs ≡ Was.logs
       → IfSome r.refused (IsRefusedSo start call Now.logs) → So r
   rests_on r write origin committed job other same refused =
-      let tells = tells_same r write committed (other ∙ same_other p.other) (λ is. other ∙ so.for_call.due (sym job ∙ is)) same in record {
+      let tells = learns_same r write committed (other ∙ same_other p.other) (λ is. other ∙ so.for_call.due (sym job ∙ is)) same in record {
         for_call = record {
           write_is = write ∙ so.for_call.write_is;
           origin_is = origin ∙ so.for_call.origin_is;
@@ -294,7 +294,7 @@ module _ (s : Settings) (p q : Writing) (old new : World) (began : Begun) (call 
               (subst (λ at. IfSome p.committed (IsAnsweredFor s Now began call at)) (sym job)
               (IfSome_then p.committed so.for_call.answered
               (answered_stays s old.keepers.told new.keepers.told keeps.grows keeps.now began call p.job)));
-          added = told_on r tells;
+          added = on_learnt r tells;
           due = tells.due;
         };
         ran = subst (λ c. Ran types start w Now.logs c r.job) (sym committed) (subst (λ at. Ran types start w Now.logs p.committed at) (sym job)
@@ -307,7 +307,7 @@ module _ (s : Settings) (p q : Writing) (old new : World) (began : Begun) (call 
 
   -- its entry is in this state then, and what it owed is there where it owes nothing
   moved_on : (job : Job) (own : HasEntryOf p.committed job) (at : OtherEnd) (r : Writing) → r.write ≡ p.write → r.origin ≡ p.origin
-      → r.committed ≡ p.committed → r.job ≡ at → r.refused ≡ None → RanEntry types start w Now.logs own.e at → TellsOn r
+      → r.committed ≡ p.committed → r.job ≡ at → r.refused ≡ None → RanEntry types start w Now.logs own.e at → LearnsOn r
       → (OwesNothing (Some job) at → AreThere (log_of Now.logs) (job_of types own.e)) → So r
   moved_on job own at r write origin committed state unrefused ran tells there = record {
     for_call = record {
@@ -318,7 +318,7 @@ module _ (s : Settings) (p q : Writing) (old new : World) (began : Begun) (call 
             position_is = subst (λ o. IfSome o (λ (j : Job). j.position ≡ own.e.position)) (sym own.job_is) own.position_is;
             there = λ nothing. there (subst (λ o. OwesNothing o at) own.job_is (subst (OwesNothing own.c.wrote.job) state nothing));
           })));
-      added = told_on r tells;
+      added = on_learnt r tells;
       due = tells.due;
     };
     ran = subst (λ c. Ran types start w Now.logs c r.job) (sym (committed ∙ own.committed_is))
@@ -364,14 +364,14 @@ module _ (s : Settings) (p q : Writing) (old new : World) (began : Begun) (call 
         unknown = so.for_call.due (at_inverse p at).1
 
         -- what is known to be written at the other end it tells
-        merge_tells : (came_to : Result Wrote LeftOpen) (r : Writing) → r.write ≡ p.write → r.committed ≡ p.committed
+        merge_learns : (came_to : Result Wrote LeftOpen) (r : Writing) → r.write ≡ p.write → r.committed ≡ p.committed
             → r.other ≡ written_there p.other (known_of came_to) → (r.job ≡ Due → r.other ≡ None)
-            → MergesOver true s sent came_to old new → TellsOn r
-        merge_tells came_to r write committed other due merged = record {
-          still = told_still p r (known_of came_to) write committed other;
+            → MergesOver true s sent came_to old new → LearnsOn r
+        merge_learns came_to r write committed other due merged = record {
+          still = still_learnt p r (known_of came_to) write committed other;
           adds = merge_adds s old new (learnt_of_write r) (merging_leader s old.states sent) sent came_to
               (λ wr known e entry.
-              told_far r job p.other wr (ap (option_and_then (λ (c : Committed). c.wrote.job)) committed ∙ answered) unknown
+              far_learnt r job p.other wr (ap (option_and_then (λ (c : Committed). c.wrote.job)) committed ∙ answered) unknown
               (other ∙ ap (written_there p.other) known) e entry)
               merged;
           due = due;
@@ -380,11 +380,11 @@ module _ (s : Settings) (p q : Writing) (old new : World) (began : Begun) (call 
         by : (came_to : Result Wrote LeftOpen) → MergesOver true s sent came_to old new → q ≡ after_stage p (came.Inverse came_to) hops → So q
         by (Ok wrote) merged is = subst So (sym is)
             (moved_on job own_job Merged (after_stage p (came.Inverse (Ok wrote)) hops) refl refl refl refl unrefused_then may
-            (merge_tells (Ok wrote) (after_stage p (came.Inverse (Ok wrote)) hops) refl refl refl (λ is. absurd (cc (is))) merged)
+            (merge_learns (Ok wrote) (after_stage p (came.Inverse (Ok wrote)) hops) refl refl refl (λ is. absurd (cc (is))) merged)
             (λ nothing. absurd nothing))
         by (Err (left.Scheduled why wrote)) merged is = subst So (sym is)
             (moved_on job own_job (Open why) (after_stage p (came.Inverse (Err (left.Scheduled why wrote))) hops) refl refl refl refl unrefused_then may
-            (merge_tells (Err (left.Scheduled why wrote)) (after_stage p (came.Inverse (Err (left.Scheduled why wrote))) hops) refl refl refl
+            (merge_learns (Err (left.Scheduled why wrote)) (after_stage p (came.Inverse (Err (left.Scheduled why wrote))) hops) refl refl refl
             (λ is. absurd (cc (is))) merged)
             (λ nothing. absurd nothing))
         by (Err (left.Refused reply)) merged is = absurd (never_refused s (merging_leader s old.states sent) sent reply old new merged)
@@ -400,10 +400,10 @@ module _ (s : Settings) (p q : Writing) (old new : World) (began : Begun) (call 
         unrefused_then : p.refused ≡ None
         unrefused_then = open_stage p.refused p.committed p.job p.back End at (λ same. absurd (cc))
 
-        end_tells : (came_to : Result ⊤ LeftOpen) (r : Writing) → r.write ≡ p.write → r.committed ≡ p.committed → r.other ≡ written_there p.other None
-            → (r.job ≡ Due → r.other ≡ None) → EndsOver true s (job_by p job) came_to old new → TellsOn r
-        end_tells came_to r write committed other due ended =
-            tells_same r write committed other due (end_same s (job_by p job) came_to old new ended)
+        end_learns : (came_to : Result ⊤ LeftOpen) (r : Writing) → r.write ≡ p.write → r.committed ≡ p.committed → r.other ≡ written_there p.other None
+            → (r.job ≡ Due → r.other ≡ None) → EndsOver true s (job_by p job) came_to old new → LearnsOn r
+        end_learns came_to r write committed other due ended =
+            learns_same r write committed other due (end_same s (job_by p job) came_to old new ended)
 
         -- the end of a job writes nothing at the other end
         none_late : (why : ScheduledWhy) (wrote : Option Wrote) → EndsOver true s (job_by p job) (Err (left.Scheduled why wrote)) old new
@@ -413,11 +413,11 @@ module _ (s : Settings) (p q : Writing) (old new : World) (began : Begun) (call 
         by : (came_to : Result ⊤ LeftOpen) → EndsOver true s (job_by p job) came_to old new → q ≡ after_stage p (came.End came_to) 0 → So q
         by (Ok tt) ended is = subst So (sym is)
             (moved_on job own_job Ended (after_stage p (came.End (Ok tt)) 0) refl refl refl refl unrefused_then may
-            (end_tells (Ok tt) (after_stage p (came.End (Ok tt)) 0) refl refl (same_other p.other) (λ is. absurd (cc (is))) ended)
+            (end_learns (Ok tt) (after_stage p (came.End (Ok tt)) 0) refl refl (same_other p.other) (λ is. absurd (cc (is))) ended)
             (λ nothing. ended_there s w its_entry (job_by p job) old new refl same_shard own_job.position_is stood.stands ended))
         by (Err (left.Scheduled why wrote)) ended is = subst So (sym is)
             (moved_on job own_job (Open why) (after_stage p (came.End (Err (left.Scheduled why wrote))) 0) refl refl refl refl unrefused_then may
-            (end_tells (Err (left.Scheduled why wrote)) (after_stage p (came.End (Err (left.Scheduled why wrote))) 0) refl refl
+            (end_learns (Err (left.Scheduled why wrote)) (after_stage p (came.End (Err (left.Scheduled why wrote))) 0) refl refl
             (none_late why wrote ended) (λ is. absurd (cc (is))) ended)
             (λ nothing. absurd nothing))
         by (Err (left.Refused reply)) ended is = absurd ended
@@ -432,18 +432,18 @@ module _ (s : Settings) (p q : Writing) (old new : World) (began : Begun) (call 
     answered_now = IfSome_then p.committed so.for_call.answered
         (answered_stays s old.keepers.told new.keepers.told keeps.grows keeps.now began call p.job)
 
-    told_entry : (entry : Option Entry) → RanBy types start w Now.logs entry p.job → HasWritten s Now began call entry
+    said_entry : (entry : Option Entry) → RanBy types start w Now.logs entry p.job → HasWritten s Now began call entry
         → RefusesHere start call Now.logs (entry_position entry)
-    told_entry None ran stands = ran
-    told_entry (Some e) ran stands = stands_at start call Now.logs e e.position refl stands
+    said_entry None ran stands = ran
+    said_entry (Some e) ran stands = stands_at start call Now.logs e e.position refl stands
 
-    told_commit : (committed : Option Committed) → IfSome committed (IsAnsweredFor s Now began call p.job) → Ran types start w Now.logs committed p.job
+    said_commit : (committed : Option Committed) → IfSome committed (IsAnsweredFor s Now began call p.job) → Ran types start w Now.logs committed p.job
         → RefusesHere start call Now.logs (entry_position (option_and_then (λ c. c.wrote.entry) committed))
-    told_commit None answered ran = ran
-    told_commit (Some c) answered ran = told_entry c.wrote.entry ran answered.written
+    said_commit None answered ran = ran
+    said_commit (Some c) answered ran = said_entry c.wrote.entry ran answered.written
 
-    told_then : RefusesHere start call Now.logs (entry_position (answered_entry p))
-    told_then = told_commit p.committed answered_now ran_now
+    said_then : RefusesHere start call Now.logs (entry_position (answered_entry p))
+    said_then = said_commit p.committed answered_now ran_now
 
     -- the refusal of a way back that was lost tells where the write's entry stands
     lost_at : (committed : Committed) → p.committed ≡ Some committed
@@ -452,8 +452,8 @@ module _ (s : Settings) (p q : Writing) (old new : World) (began : Begun) (call 
         let entry = committed.wrote.entry in
         let faults = new.link.faults in
         let position : entry_position (answered_entry p) ≡ refused_at (Store (LinkFault faults (when_of entry))) =
-        ap (λ o. entry_position (option_and_then (λ (c : Committed). c.wrote.entry) o)) answered ∙ sym (told_position faults entry) in
-        (Store (LinkFault faults (when_of entry)), refl, subst (RefusesHere start call Now.logs) position told_then)
+        ap (λ o. entry_position (option_and_then (λ (c : Committed). c.wrote.entry) o)) answered ∙ sym (said_position faults entry) in
+        (Store (LinkFault faults (when_of entry)), refl, subst (RefusesHere start call Now.logs) position said_then)
 
     loses_on : LosesWayBack p old q new → So q
     loses_on loses = subst So (sym loses.then)
@@ -474,13 +474,13 @@ module _ (s : Settings) (p q : Writing) (old new : World) (began : Begun) (call 
         subst So (sym ends.then)
         (rests_on (after_stage p (write_refused (next_of p) reply) 0) rests.write rests.origin rests.committed rests.job rests.other same
         (subst (λ r. IfSome r (IsRefusedSo start call Now.logs)) (sym rests.refused)
-        (Node (NodeDown ends.node (when_of entry)), refl, subst (RefusesHere start call Now.logs) (sym (down_position ends.node entry)) told_then)))
+        (Node (NodeDown ends.node (when_of entry)), refl, subst (RefusesHere start call Now.logs) (sym (down_position ends.node entry)) said_then)))
 
     -- it ends without its way back
     pub gives_up_on : q ≡ way_given_up p → So q
     gives_up_on then = subst So (sym then)
         (rests_on (after_stage p (came.Apply (Err (Refused (Memory (entry_position (answered_entry p)))))) 0) refl refl refl refl refl same
-        (Memory (entry_position (answered_entry p)), refl, told_then))
+        (Memory (entry_position (answered_entry p)), refl, said_then))
 
     relays_on : next_of p ≡ Relay → RelaysHeld s p old q new → So q
     relays_on at relays = subst So (sym relays.then)

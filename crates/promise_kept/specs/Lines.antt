@@ -75,7 +75,7 @@ pub record OthersKeepPromise : Type 0 where
 
 -- ---- two lines
 
--- a read that isn't critical, and that is told as kept, is answered the same where the next line asks it again
+-- a read that isn't critical, and that is said to be kept, is answered the same where the next line asks it again
 pub record KeptAnswersAgain : Type 0 where
   pub same : (old mid new : Moment) (read : CheckedRead) (a b : ReadReply) → read.critical ≡ false
       → IsLine (asks.Call (call.Read read)) old (Called (called.Read a)) mid → IsLine (asks.Call (call.Read read)) mid (Called (called.Read b)) new

@@ -118,22 +118,22 @@ pub record IsAnsweredFor (s : Settings) (stores : Stores) (began : Begun) (call 
   pub written : HasWritten s stores began call c.wrote.entry
   pub job : HasJobOf s stores at c.wrote.job c.wrote.entry
 
--- the entry is what is told, if anything
-abbrev pub IsWhatIsTold : Option LearntEntry → Entry → Type 0
-IsWhatIsTold None e = ⊥
-IsWhatIsTold (Some t) e = t.entry ≡ e
+-- the entry is the one that is learnt, if any
+abbrev pub IsOneLearnt : Option LearntEntry → Entry → Type 0
+IsOneLearnt None e = ⊥
+IsOneLearnt (Some t) e = t.entry ≡ e
 
--- the entry is one of those that a write tells its session
-abbrev pub IsToldOf : LearntEntries → Entry → Type 0
-IsToldOf told e = IsWhatIsTold told.here e ⊎ IsWhatIsTold told.other e
+-- the entry is one of those that a write's session learns
+abbrev pub IsLearnt : LearntEntries → Entry → Type 0
+IsLearnt learnt e = IsOneLearnt learnt.here e ⊎ IsOneLearnt learnt.other e
 
--- the write is under way for the call, and what its commit answered stands. Each entry that its lines have added is one that its session is to be told
+-- the write is under way for the call, and what its commit answered stands. Each entry that its lines have added is one that its session is to learn
 -- of; nothing is known of the other end while its job is due
 pub record IsWriteFor (s : Settings) (keepers : KeeperState) (began : Begun) (call : CheckedWrite) (p : Writing) : Type 0 where
   pub write_is : p.write ≡ call.write
   pub origin_is : p.origin ≡ Client call.session call.seq
   pub answered : IfSome p.committed (IsAnsweredFor s (stores_in s keepers.told) began call p.job)
-  pub added : (e : Entry) → Contains began.added e → IsToldOf (learnt_of_write p) e
+  pub added : (e : Entry) → Contains began.added e → IsLearnt (learnt_of_write p) e
   pub due : p.job ≡ Due → p.other ≡ None
 
 -- ---- calls that are held

@@ -21,7 +21,7 @@ pub fn requests_keep_promise()
     ensures { RequestsKeepPromise }
 {}
 
-/// A read that was told as kept is answered the same where the next line asks it again.
+/// A read that was said to be kept is answered the same where the next line asks it again.
 #[tactic(auto, using(crate::proofs::Again::kept_answers_again))]
 pub fn kept_answers_again()
     ensures { KeptAnswersAgain }

@@ -55,7 +55,7 @@ use Rattle.shard_tables.specs.StoreView.{Store}
 use Rattle.words.specs.declared.DeliveryWord.{DeliveryWord}
 use Rattle.words.specs.declared.DeliveryWord.TheVariants as word
 use Rattle.tao_core.specs.Core.{CoreState, IsConsistentCore, LeavesCore, Moment, StaysHeld, moment}
-use Rattle.tao_core.specs.Deliveries.{AnswersDeliver, AnswersRefill, AnswersSecond, IsExactNow, IsMarkTold, IsProcessed, IsShown}
+use Rattle.tao_core.specs.Deliveries.{AnswersDeliver, AnswersRefill, AnswersSecond, IsExactNow, IsMarkSaid, IsProcessed, IsShown}
 use Rattle.tao_core.specs.Deliveries.{refill_plan, shown_item}
 use Rattle.tao_core.specs.HeldCalls.{DoesAtOnce}
 use Rattle.core_plans.specs.Held.{IsUnderWay}
@@ -119,7 +119,7 @@ pub record ProcessLeaves (asked : DeliveryWord) (node : NodeName) (m : SeenMaint
 -- the message was processed, and its node has a mark
 pub processed : (asked : DeliveryWord) (node : NodeName) (m : SeenMaint) (told : Message) (dropped mark : ℕ) (core now : CoreState) (own : core ≡ now)
     (left : Fleet) → told ≡ shown_message m → DeliversAt (types_of core.settings.schema) m dropped node core.fleet left
-    → IsMarkTold (record core { fleet = left }) node m.shard mark → IsFleetOf core.settings left → GoesOn core.fleet left
+    → IsMarkSaid (record core { fleet = left }) node m.shard mark → IsFleetOf core.settings left → GoesOn core.fleet left
     → ProcessLeaves asked node m now (AtNode (Cache (Delivered (record { word = asked; dropped = dropped; mark = mark; message = told }))))
     (record core { fleet = left })
 processed asked node m told dropped mark core now own left is delivers at fleet goes =
@@ -202,7 +202,7 @@ exact_now tells core keepers name key (Some n) (Some item) of is found_is =
     (node_is core.settings core.fleet name n of.consistent.fleet is) (sym found_is)
 
 pub shows : (tells : Bool) (core : CoreState) (keepers : KeeperState) (link : LinkShown) (name : NodeName) (key : Key) (mark : ℕ) (found : Option Item)
-    (item : ShownAs) → IsConsistentCore tells keepers.told core → IsHeldAt core.fleet name key found → IsMarkTold core name (key_shard key) mark
+    (item : ShownAs) → IsConsistentCore tells keepers.told core → IsHeldAt core.fleet name key found → IsMarkSaid core name (key_shard key) mark
     → item ≡ shown_item found → IsShown tells name key mark item (moment core keepers link)
 shows tells core keepers link name key mark found item of held at is = record {
   found = found;

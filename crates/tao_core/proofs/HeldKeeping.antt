@@ -318,7 +318,7 @@ module _ (tells : Bool) (number : ℕ) (old mid : Moment) (does : DoesStage tell
     is_over = sym next_is ∙ over
 
     pub ends_here : EndsPlan number After (held_in old.core) reply (held_seen later sessions NewPens)
-    ends_here = record { ended = ends_after.ended; over = ends_after.over; told = ends_after.told; takes = takes; learns = ends_after.learns }
+    ends_here = record { ended = ends_after.ended; over = ends_after.over; said = ends_after.said; takes = takes; learns = ends_after.learns }
 
     -- the session that learnt of it is one of the core, as all others
     learnt_core : IsConsistentCore tells mid.keepers.told mid.core → mid.core.settings ≡ old.core.settings → mid.core.sessions ≡ old.core.sessions
@@ -361,7 +361,7 @@ module _ (tells : Bool) (number : ℕ) (old mid : Moment) (does : DoesStage tell
     reaches = does.reaches;
     leaves = subst (λ n. Leaves asked (numbered_plan number After) n (held_in old.core) reply (held_seen mid.core.plans sessions NewPens))
         (sym next ∙ next_is)
-        (record { told = told; changes = does.steps.changes; sessions = same });
+        (record { said = told; changes = does.steps.changes; sessions = same });
     link = does.link;
     rest = ap (λ (x : CoreState). record x { sessions = sessions }) rest;
   }

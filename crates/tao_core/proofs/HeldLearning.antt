@@ -303,7 +303,7 @@ module _ (tells : Bool) (s : Settings) (tables : Tables) (f : Fleet) (masters : 
   may_learn (Write p) reader passes under found room reaches all = record {
     author_is = found;
     room = room;
-    told = may_both tells s tables f.stores (sessions_of passes) (author p.origin) (learnt_of_write p) all (plan_learnt tells s tables f p under);
+    may = may_both tells s tables f.stores (sessions_of passes) (author p.origin) (learnt_of_write p) all (plan_learnt tells s tables f p under);
   }
 
   -- and is one of the core then
@@ -338,5 +338,5 @@ none_now number passes = record { ready = (tt, tt); may = record { here = tt; ot
 
 pub learns_now : (p : Writing) (reply : Reply) (passes : List SeenPass) → next_stage (Write p) ≡ None → IsOver (Write p) reply → MayLearnOf p passes
     → MayLearnNow (author p.origin) (learnt_with reply (Write p)) passes
-learns_now p (Called reply) passes over is may = now_ready (author p.origin) (learnt_of_write p) passes may.author_is (may.room over reply is) may.told
+learns_now p (Called reply) passes over is may = now_ready (author p.origin) (learnt_of_write p) passes may.author_is (may.room over reply is) may.may
 learns_now p reply passes over is may = none_now (author p.origin) passes

@@ -1,4 +1,4 @@
--- What a session learns of a write, of which it is told two entries: that it may, and that it is one of the core then.
+-- What a session learns of a write, of which it learns two entries: that it may, and that it is one of the core then.
 use Rattle.std.proofs.Common.{◌≡◌, ◌<◌, ◌∙◌, ℕ, zero, suc, Bool, true, false, List, [], ◌∷◌, Option, Some, None, ap, refl, subst, sym, inl, inr, arith}
 use Rattle.std.specs.Prelude.{◌==◌, ◌≤◌, All, IfSome, find, if◌then◌else◌, slice_get, slice_index_or}
 use Rattle.std.proofs.lemmas.Bool.{cases_Bool, eq-eqb}
@@ -101,7 +101,7 @@ any_some : {X : Type 0} (o : Option X) (P : Type 0) → P → IfSome o (λ _. P)
 any_some None P h = tt
 any_some (Some x) P h = h
 
--- a session that is open and has room may learn what it may be told
+-- a session that is open and has room may learn what it may know
 pub now_ready : (number : ℕ) (told : LearntEntries) (passes : List SeenPass) → is_open (sessions_of passes) number ≡ true → HasRoomForBoth number passes
     → MayLearnBoth told number (sessions_of passes) → MayLearnNow number told passes
 now_ready number told passes found room may = record {
@@ -109,7 +109,7 @@ now_ready number told passes found room may = record {
   may = may;
 }
 
--- ---- what is told was seen
+-- ---- what is learnt was seen
 
 -- the entry stands in what was seen of the log of a configured shard
 abbrev pub IsLearntOf : Settings → List Store → LearntEntry → Type 0

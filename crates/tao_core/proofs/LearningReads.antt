@@ -149,7 +149,7 @@ module _ (tells : Bool) (s : Settings) (tables : Tables) (stores : List Store) (
     reached = reached_in (query_key p.query) reply.version here (reaches reply ends);
   }
 
--- ---- what a reply tells
+-- ---- what a reply says
 
 -- a reply that answers with a version is that of a read
 answered_is : (reply : Reply) (at : ℕ) → answered_version reply ≡ Some at → (answer : ReadReply) × (reply ≡ Called (called.Read answer)) × (answer.version ≡ at)

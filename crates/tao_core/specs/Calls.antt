@@ -52,16 +52,16 @@ KeptReaches tells s name query reply new = ⊤
 
 -- ---- what is learnt
 
--- the session of that number learns the entry of a shard's log that it is told, where there is one, and nothing else is learnt
+-- the session of that number learns that entry of a shard's log, where there is one, and nothing else is learnt
 abbrev pub LearnsThrough : ℕ → Option LearntEntry → List Session → List Session → Type 0
 LearnsThrough number None old new = new ≡ old
 LearnsThrough number (Some t) old new = SessionLearns number t.shard t.entry t.note old new
 
 -- the session of that number learns what a write wrote: first the entry of the write, and then the one at the other end
-pub record LearnsBoth (number : ℕ) (told : LearntEntries) (old new : List Session) : Type 0 where
+pub record LearnsBoth (number : ℕ) (learnt : LearntEntries) (old new : List Session) : Type 0 where
   pub between : List Session
-  pub here : LearnsThrough number told.here old between
-  pub other : LearnsThrough number told.other between new
+  pub here : LearnsThrough number learnt.here old between
+  pub other : LearnsThrough number learnt.other between new
 
 -- the session of that number, where there is one, learns a version of a key, through a note that has seen all of the key's log
 abbrev pub LearnsVersion : Pens → Option ℕ → Key → ℕ → List Session → List Session → Type 0
@@ -78,6 +78,6 @@ abbrev pub LearnsAnswer : Pens → Reading → Reply → List Session → List S
 LearnsAnswer pens p (Called (called.Read reply)) old new = LearnsVersion pens p.reader (query_key p.query) reply.version old new
 LearnsAnswer pens p reply old new = new ≡ old
 
--- an entry of a shard's log, as it is told by a note
+-- an entry of a shard's log, as it is learnt by a note
 abbrev pub learn_through_note : ℕ → View → Option Entry → Option LearntEntry
 learn_through_note shard note entry = option_map (λ e. record { shard = shard; entry = e; note = note }) entry

@@ -45,21 +45,21 @@ use Rattle.tao_core.specs.Core.{CoreState, Moment}
 
 -- ---- messages
 
--- the mark that a reply tells of a node for a shard: its low-water mark, and 0 where it is down
-pub record IsMarkTold (core : CoreState) (node : NodeName) (shard mark : ℕ) : Type 0 where
+-- the mark that a reply says of a node for a shard: its low-water mark, and 0 where it is down
+pub record IsMarkSaid (core : CoreState) (node : NodeName) (shard mark : ℕ) : Type 0 where
   pub low : ℕ
   pub low_is : IsMarkAt core.fleet node shard (Some low)
   pub mark_is : mark ≡ (if is_up core.states node then low else 0)
 
--- the mark that is told, where the name is that of a leader or follower; none where it is another
-abbrev pub TellsMark : CoreState → NodeName → ℕ → Option ℕ → Type 0
-TellsMark core node shard None = IsMarkAt core.fleet node shard None
-TellsMark core node shard (Some mark) = IsMarkTold core node shard mark
+-- the mark that is said, where the name is that of a leader or follower; none where it is another
+abbrev pub SaysMark : CoreState → NodeName → ℕ → Option ℕ → Type 0
+SaysMark core node shard None = IsMarkAt core.fleet node shard None
+SaysMark core node shard (Some mark) = IsMarkSaid core node shard mark
 
 -- a message was processed: its node dropped so many items, and the reply has the node's mark for the message's shard after it
 pub record ProcessesAt (node : NodeName) (message : SeenMaint) (reply : DeliveredReply) (old new : CoreState) : Type 0 where
   pub delivers : DeliversAt (types_of old.settings.schema) message reply.dropped node old.fleet new.fleet
-  pub mark : IsMarkTold new node message.shard reply.mark
+  pub mark : IsMarkSaid new node message.shard reply.mark
   pub message_is : reply.message ≡ shown_message message
 
 -- the reply that a message was processed, for the word that asked for it
@@ -69,20 +69,20 @@ IsProcessed asked node message old reply new = ⊥
 
 -- no message waits at the place, and nothing changed
 abbrev pub FindsNone : NodeName → ℕ → ℕ → CoreState → CoreState → Type 0
-FindsNone node place told old new = (told ≡ place) × WaitsAt node place None old.mail × (new ≡ old)
+FindsNone node place said old new = (said ≡ place) × WaitsAt node place None old.mail × (new ≡ old)
 
 -- the message at a place of the node's inbox was taken out and processed
 abbrev pub AnswersDeliver : NodeName → ℕ → CoreState → Reply → CoreState → Type 0
 AnswersDeliver node place old (Node reply) new = (message : SeenMaint) × ChangesNode node (TakesOut place (Some message)) old.mail new.mail
     × IsProcessed word.Deliver node message old (Node reply) new
-AnswersDeliver node place old (Refused (OfNode (NoMessage told))) new = FindsNone node place told old new
+AnswersDeliver node place old (Refused (OfNode (NoMessage said))) new = FindsNone node place said old new
 AnswersDeliver node place old reply new = ⊥
 
 -- the message at a place of the node's inbox was processed, and still waits where it was
 abbrev pub AnswersSecond : NodeName → ℕ → CoreState → Reply → CoreState → Type 0
 AnswersSecond node place old (Node reply) new = (message : SeenMaint) × WaitsAt node place (Some message) old.mail × (new.mail ≡ old.mail)
     × IsProcessed word.Again node message old (Node reply) new
-AnswersSecond node place old (Refused (OfNode (NoMessage told))) new = FindsNone node place told old new
+AnswersSecond node place old (Refused (OfNode (NoMessage said))) new = FindsNone node place said old new
 AnswersSecond node place old (Refused (Memory position)) new = (position ≡ 0) × (new ≡ old)
 AnswersSecond node place old reply new = ⊥
 
@@ -93,9 +93,9 @@ lost_as place (Some message) = Node (Cache (Lost (shown_message message)))
 
 -- the message at a place of the node's inbox was taken out, and is lost
 abbrev pub AnswersLoss : NodeName → ℕ → CoreState → Reply → CoreState → Type 0
-AnswersLoss node place old (Node (Cache (Lost told))) new = (new.fleet ≡ old.fleet)
-    × (message : SeenMaint) × ChangesNode node (TakesOut place (Some message)) old.mail new.mail × (told ≡ shown_message message)
-AnswersLoss node place old (Refused (OfNode (NoMessage told))) new = FindsNone node place told old new
+AnswersLoss node place old (Node (Cache (Lost said))) new = (new.fleet ≡ old.fleet)
+    × (message : SeenMaint) × ChangesNode node (TakesOut place (Some message)) old.mail new.mail × (said ≡ shown_message message)
+AnswersLoss node place old (Refused (OfNode (NoMessage said))) new = FindsNone node place said old new
 AnswersLoss node place old reply new = ⊥
 
 -- the messages that wait for the node
@@ -128,7 +128,7 @@ pub record IsShown (tells : Bool) (node : NodeName) (key : Key) (mark : ℕ) (it
   pub held : IsHeldAt now.core.fleet node key found
   pub item_is : item ≡ shown_item found
   pub exact : IsExactNow tells now.core now.keepers key found
-  pub mark_is : IsMarkTold now.core node (key_shard key) mark
+  pub mark_is : IsMarkSaid now.core node (key_shard key) mark
 
 -- what the reply to a show says: what the node holds at the key, unless there was no memory
 abbrev pub AnswersShow : Bool → NodeName → Key → Moment → Reply → Type 0

@@ -99,36 +99,36 @@ abbrev pub IsReady : Pens → HeldPlan → Option Reader → List SeenPass → T
 IsReady pens (of.Write p) reader passes = IfSome (learner (of.Write p)) (λ number. HasRoomForBoth number passes)
 IsReady pens (of.Read p) reader passes = IsReaderOf pens (query_shard p.query) (learner (of.Read p)) reader passes
 
--- what is told of a shard's log stands in what was seen of that, and the session of that number may learn it
-pub record MayLearnThrough (told : LearntEntry) (number : ℕ) (sessions : List Session) : Type 0 where
-  pub note : IfSome (session_at sessions number) (λ s. IsNoteOf told.shard told.note s.notes)
-  pub stands : WhereTold told.note.log.told (entry_at told.note.entries told.entry.position ≡ Some told.entry)
+-- what is learnt of a shard's log stands in what was seen of that, and the session of that number may learn it
+pub record MayLearnThrough (learnt : LearntEntry) (number : ℕ) (sessions : List Session) : Type 0 where
+  pub note : IfSome (session_at sessions number) (λ s. IsNoteOf learnt.shard learnt.note s.notes)
+  pub stands : WhereTold learnt.note.log.told (entry_at learnt.note.entries learnt.entry.position ≡ Some learnt.entry)
 
--- each of the entries that a write tells stands in what was seen, and the session of that number may learn it
-pub record MayLearnBoth (told : LearntEntries) (number : ℕ) (sessions : List Session) : Type 0 where
-  pub here : IfSome told.here (λ t. MayLearnThrough t number sessions)
-  pub other : IfSome told.other (λ t. MayLearnThrough t number sessions)
+-- each of the entries that a write says stands in what was seen, and the session of that number may learn it
+pub record MayLearnBoth (learnt : LearntEntries) (number : ℕ) (sessions : List Session) : Type 0 where
+  pub here : IfSome learnt.here (λ t. MayLearnThrough t number sessions)
+  pub other : IfSome learnt.other (λ t. MayLearnThrough t number sessions)
 
--- where anything is told, it is so
-abbrev pub IfTold : LearntEntries → Type 0 → Type 0
-IfTold told P = IfSome told.here (λ _. P) × IfSome told.other (λ _. P)
+-- where anything is learnt, it is so
+abbrev pub IfLearnt : LearntEntries → Type 0 → Type 0
+IfLearnt learnt P = IfSome learnt.here (λ _. P) × IfSome learnt.other (λ _. P)
 
 -- the session of that number is open, and has room for an entry that it may learn
-pub record MayLearnOne (number : ℕ) (told : LearntEntry) (passes : List SeenPass) : Type 0 where
+pub record MayLearnOne (number : ℕ) (learnt : LearntEntry) (passes : List SeenPass) : Type 0 where
   pub author_is : is_open (sessions_of passes) number ≡ true
   pub room : HasRoom number passes
-  pub may : MayLearnThrough told number (sessions_of passes)
+  pub may : MayLearnThrough learnt number (sessions_of passes)
 
--- the session of that number is open, and has room for both entries that a write tells, where it tells any
-pub record MayLearnNow (number : ℕ) (told : LearntEntries) (passes : List SeenPass) : Type 0 where
-  pub ready : IfTold told ((is_open (sessions_of passes) number ≡ true) × HasRoomForBoth number passes)
-  pub may : MayLearnBoth told number (sessions_of passes)
+-- the session of that number is open, and has room for both entries that a write says, where it says any
+pub record MayLearnNow (number : ℕ) (learnt : LearntEntries) (passes : List SeenPass) : Type 0 where
+  pub ready : IfLearnt learnt ((is_open (sessions_of passes) number ≡ true) × HasRoomForBoth number passes)
+  pub may : MayLearnBoth learnt number (sessions_of passes)
 
--- the session of a write is open, and has room for what it is told, which it may learn
+-- the session of a write is open, and has room for what it wrote, which it may learn
 pub record MayLearnOf (p : Writing) (passes : List SeenPass) : Type 0 where
   pub author_is : is_open (sessions_of passes) (author p.origin) ≡ true
   pub room : next_stage (of.Write p) ≡ None → (reply : CallReply) → reply_of p ≡ Some (Called reply) → HasRoomForBoth (author p.origin) passes
-  pub told : MayLearnBoth (learnt_of_write p) (author p.origin) (sessions_of passes)
+  pub may : MayLearnBoth (learnt_of_write p) (author p.origin) (sessions_of passes)
 
 -- who is ready to read is an open session, and may see all of the shard's log
 pub record MayHear (pens : Pens) (shard : ℕ) (reader : Reader) (passes : List SeenPass) : Type 0 where
@@ -147,17 +147,17 @@ abbrev pub MayLearn : Pens → HeldPlan → Option Reader → List SeenPass → 
 MayLearn pens (of.Read p) reader passes = (reply : ReadReply) → EndsWith p (Called (called.Read reply)) → MayHearOf pens p reader passes reply.version
 MayLearn pens (of.Write p) reader passes = MayLearnOf p passes
 
--- a plan that is over is told and taken out, and its session learns of it
+-- the reply of a plan that is over is said, the plan is taken out, and its session learns of it
 pub record EndsPlan (number : ℕ) (plan : HeldPlan) (old : Held) (reply : Reply) (new : Held) : Type 0 where
   pub ended : Reply
   pub over : IsOver plan ended
-  pub told : reply ≡ numbered_reply number ended
+  pub said : reply ≡ numbered_reply number ended
   pub takes : TakesPlan number old.plans new.plans
   pub learns : LearnsOf new.pens plan ended old.sessions new.sessions
 
--- a plan that did a stage is held before the stage that follows, which is told
+-- a plan that did a stage is held before the stage that follows, which is said
 pub record GoesOnHeld (next : Reply) (number : ℕ) (plan : HeldPlan) (old : Held) (reply : Reply) (new : Held) : Type 0 where
-  pub told : reply ≡ next
+  pub said : reply ≡ next
   pub changes : ChangesPlan number plan old.plans new.plans
   pub sessions : new.sessions ≡ old.sessions
 

@@ -14,7 +14,7 @@ use Rattle.tao_core.specs.Core.{Moment}
 
 -- one direction between two nodes was mended, where it is to be whole, or else cut, where the link tells its cuts; or there was no memory
 abbrev pub AnswersSwitch : LinkWord → Bool → LinkPlace → Moment → Reply → Moment → Type 0
-AnswersSwitch word whole place old (Node (Link told)) new = (told ≡ word) × SwitchesWhereTold (between place.from place.to) whole old.link.cuts new.link.cuts
+AnswersSwitch word whole place old (Node (Link said)) new = (said ≡ word) × SwitchesWhereTold (between place.from place.to) whole old.link.cuts new.link.cuts
     × (new ≡ record old { link = record old.link { cuts = new.link.cuts } })
 AnswersSwitch word whole place old (Refused (Memory position)) new = (position ≡ 0) × (new ≡ old)
 AnswersSwitch word whole place old reply new = ⊥

@@ -18,7 +18,7 @@ use Rattle.tao_core.specs.HeldCalls.{AnswersCall, AnswersPlan}
 use Rattle.tao_core.specs.LinkReplies.{AnswersLink}
 use Rattle.tao_core.specs.StoreReplies.{AnswersStore}
 
--- a session is opened, which was told of nothing, or there was no memory
+-- a session is opened, which has learnt nothing, or there was no memory
 abbrev pub AnswersOpen : OpenSession → List Session → Reply → List Session → Type 0
 AnswersOpen opened sessions (Opened session) next = (session ≡ opened.session)
     × ((notes : List View) × (next ≡ with_session (new_session opened notes) sessions))

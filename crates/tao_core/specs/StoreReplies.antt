@@ -30,7 +30,7 @@ use Rattle.tao_core.specs.Trims.{AnswersTrim}
 
 -- ---- refusals
 
--- a call of a keeper failed: the count that the reply tells rose, and no table changed
+-- a call of a keeper failed: the count that the reply says rose, and no table changed
 pub record KeeperFails (tells : Bool) (old new : KeeperState) (count : ℕ) : Type 0 where
   pub count_is : count ≡ new.faults
   pub rose : Rose old.faults new.faults

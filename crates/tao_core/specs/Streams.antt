@@ -30,7 +30,7 @@ pub record RefusesMaster (asked : AskedStream) (old : Moment) (reply : Reply) (n
   pub reply_is : reply ≡ Refused (OfNode (IsMaster asked.at))
   pub same : new ≡ old
 
--- the store is a slave's, and the reply tells what came of the step. Nothing of the core but its nodes and their messages changes
+-- the store is a slave's, and the reply says what came of the step. Nothing of the core but its nodes and their messages changes
 pub record StreamsInto (tells : Bool) (asked : AskedStream) (old : Moment) (reply : Reply) (new : Moment) : Type 0 where
   pub slave : IsSlaveStore old.core.settings asked.at
   pub outcome : Result Streamed Refusal

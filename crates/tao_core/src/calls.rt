@@ -179,7 +179,7 @@ fn author(origin: Origin) -> u32
     }
 }
 
-/// The reply of a write that is over. Its session learns what is told with it.
+/// The reply of a write that is over. Its session learns what it wrote.
 #[tactic(auto, using(crate::proofs::HeldLearning::learns_now))]
 fn finish_write(sessions: &mut Sessions, plan: WritePlan) -> Reply
     requires over { next_stage (Write plan) ≡ None }
@@ -188,8 +188,8 @@ fn finish_write(sessions: &mut Sessions, plan: WritePlan) -> Reply
     ensures learns { LearnsBoth (author plan.origin) (learnt_with result (Write plan)) (sessions_of sessions.old) (sessions_of sessions.new) }
 {
     let session = author(plan.origin());
-    let EndedPlan { reply, told } = HeldPlan::Write(plan).finish();
-    learn_both(sessions, session, told);
+    let EndedPlan { reply, learnt } = HeldPlan::Write(plan).finish();
+    learn_both(sessions, session, learnt);
     reply
 }
 
@@ -228,7 +228,7 @@ fn finish_read(
     reply
 }
 
-/// The reply of a plan that is over. Its session learns of a write what is told with it, and of a read which version it answers.
+/// The reply of a plan that is over. Its session learns of a write what that wrote, and of a read which version it answers.
 pub(crate) fn finish_plan(
     sessions: &mut Sessions,
     fleet: &mut Fleet,

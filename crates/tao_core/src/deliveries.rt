@@ -14,7 +14,7 @@ ghost use Rattle.tao_keeper.specs.KeeperState.{KeeperState};
 ghost use Rattle.tao_link.specs.Shown.{LinkShown};
 
 use crate::refusals::{no_message, no_refill};
-use crate::serving::{Core, mark_told};
+use crate::serving::{Core, mark_said};
 use cache_items::Item;
 use core_model::region_of;
 use core_plans::{begin_read, carry_read};
@@ -40,8 +40,8 @@ fn home_tier(node: NodeName) -> u16
     }
 }
 
-/// A message as a reply tells it.
-fn told(message: &Maint) -> Message
+/// A message as a reply says it.
+fn said(message: &Maint) -> Message
     ensures { result ≡ shown_message message.now }
 {
     Message {
@@ -54,7 +54,7 @@ fn told(message: &Maint) -> Message
 fn lost(message: Maint) -> Reply
     ensures { result ≡ Reply.Node (NodeReply.Cache (CacheReply.Lost (shown_message message))) }
 {
-    Reply::Node(NodeReply::Cache(CacheReply::Lost(told(&message))))
+    Reply::Node(NodeReply::Cache(CacheReply::Lost(said(&message))))
 }
 
 /// The reply that the message at a place is lost, where one waited there.
@@ -106,14 +106,14 @@ impl<'c> Core<'c> {
         ensures on { StaysHeld self.old.fleet self.new.fleet }
         ensures rest { self.new ≡ record self.old { fleet = self.new.fleet } }
     {
-        let message_told = told(&message);
+        let message_said = said(&message);
         let delivery = self.nodes.fleet.deliver(self.config, node, message);
-        let mark = mark_told(&self.nodes.topology, node, delivery.mark);
+        let mark = mark_said(&self.nodes.topology, node, delivery.mark);
         Reply::Node(NodeReply::Cache(CacheReply::Delivered(DeliveredReply {
             word,
             dropped: delivery.dropped,
             mark,
-            message: message_told,
+            message: message_said,
         })))
     }
 

@@ -17,7 +17,7 @@
 //! open, every edge has its inverse, every store has its shard's whole log, and each such node holds exactly what it
 //! held of last versions; one that stops says why, where, and what it did; an audit's
 //! answer is the whole log's with its length; a message that is delivered, or delivered again, is the one at its
-//! place, and its node has processed it and then has the mark that is told; one that is dropped is lost alone; a
+//! place, and its node has processed it and then has the mark that is said; one that is dropped is lost alone; a
 //! refill is the oldest of its follower, read at its floor; `hold` and `advance` do one stage each, and tell the
 //! one that follows, or the reply of the call that has ended; each open ask is that of one held read; what is
 //! shown as held is exact in its log, with the node's mark; nothing else changes a table, a session, a node or an
@@ -28,8 +28,8 @@
 //! covered; each message names an entry of its shard's log to which its node's store has come, and each key has come
 //! to the floors of the sessions. No low-water mark falls through a request, and who
 //! comes up is at its stores, so that after a settle each read that begins answers at the log's version until a log
-//! grows, whichever nodes are down. What a node holds of a key, its mark for a shard, which is told as 0 where it is down,
-//! and a session's floor are told as they stand.
+//! grows, whichever nodes are down. What a node holds of a key, its mark for a shard, which is said as 0 where it is down,
+//! and a session's floor are said as they stand.
 //!
 //! The contracts that say so: `Core::open`, `Core::call`, `Core::settle`, `Core::item`, `Core::mark`,
 //! `Core::floor`; `AnswersRequest`, `AnswersCall`, `AnswersDeliver`, `AnswersSecond`,

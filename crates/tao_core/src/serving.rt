@@ -11,7 +11,7 @@ ghost use Rattle.core_model.specs.Stores.{AreStores, store_count};
 ghost use Rattle.core_model.specs.Consistent.{IsFleetOf};
 ghost use Rattle.core_model.specs.Evictions.{IsCacheOf};
 ghost use Rattle.tao_core.specs.CacheReplies.{AnswersEvict};
-ghost use Rattle.tao_core.specs.Deliveries.{TellsMark};
+ghost use Rattle.tao_core.specs.Deliveries.{SaysMark};
 ghost use Rattle.tao_core.specs.Replies.{AnswersAsked, AnswersOpen, AnswersRequest};
 ghost use Rattle.tao_keeper.specs.KeeperState.{KeeperState};
 ghost use Rattle.tao_link.specs.Shown.{LinkShown};
@@ -43,7 +43,7 @@ use tao_keeper::Keeper;
 use tao_link::Link;
 use topology::{Config, Topology};
 
-/// The core of a run: its configuration, the sessions that are open with what they were told of, which nodes are up, the messages that
+/// The core of a run: its configuration, the sessions that are open with what they have learnt, which nodes are up, the messages that
 /// wait, the calls that are held, and the nodes: followers, leaders, and the stores of the shards. What the stores hold lies with the
 /// keepers that each call is given.
 #[derive(Drop)]
@@ -187,10 +187,10 @@ impl<'c> Core<'c> {
     /// The low-water mark of a leader or follower for the shard, up to which it has processed the shard's log; 0 where it doesn't serve
     /// the shard, or is down. None exactly where the name is none of theirs.
     pub fn mark(&self, node: NodeName, shard: u16) -> Option<u64>
-        ensures { TellsMark self.now node shard result }
+        ensures { SaysMark self.now node shard result }
     {
         let low = self.nodes.fleet.mark(node, shard)?;
-        Some(mark_told(&self.nodes.topology, node, low))
+        Some(mark_said(&self.nodes.topology, node, low))
     }
 
     /// The version that a session's reads of the key have at least: the greatest that its writes which were carried out gave the key. None
@@ -235,8 +235,8 @@ impl<'c> Core<'c> {
     }
 }
 
-/// What is told of the mark of a node, of which this is the low-water mark.
-pub(crate) fn mark_told(topology: &Topology, node: NodeName, low: u64) -> u64
+/// What is said of the mark of a node, of which this is the low-water mark.
+pub(crate) fn mark_said(topology: &Topology, node: NodeName, low: u64) -> u64
     ensures { result ≡ (if is_up topology.now node then low else 0) }
 {
     if topology.is_up(node) { low } else { 0 }

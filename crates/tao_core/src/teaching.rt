@@ -1,4 +1,4 @@
-//! What a session learns, by notes of the shards' logs: of a write what it is told, and of a read which version that answers.
+//! What a session learns, by notes of the shards' logs: of a write what it wrote, and of a read which version that answers.
 ghost use Rattle.std.specs.Prelude.{◌≡◌, ◌<◌, IfOk, IfSome, OnOk, true};
 ghost use Rattle.core_model.specs.Pens.{pens_of};
 ghost use Rattle.core_model.specs.Stores.{AreStores, store_count};
@@ -18,25 +18,25 @@ use shard_log::Note;
 use tao_base::{Key, OutOfMemory};
 use topology::Config;
 
-/// A session learns the entry of a shard's log that it is told, where there is one.
+/// A session learns that entry of a shard's log, where there is one.
 #[tactic(auto, using(crate::proofs::LearningBoth::room_of_both))]
-fn learn_through(sessions: &mut Sessions, session: u32, told: Option<LearntEntry>)
-    requires { IfSome told (λ t. MayLearnOne session t sessions.old) }
-    ensures learns { LearnsThrough session told (sessions_of sessions.old) (sessions_of sessions.new) }
+fn learn_through(sessions: &mut Sessions, session: u32, learnt: Option<LearntEntry>)
+    requires { IfSome learnt (λ t. MayLearnOne session t sessions.old) }
+    ensures learns { LearnsThrough session learnt (sessions_of sessions.old) (sessions_of sessions.new) }
     ensures more { HasRoomForBoth session sessions.old → HasRoom session sessions.new }
 {
-    match told {
+    match learnt {
         Some(LearntEntry { shard, entry, note }) => sessions.learn(session, shard, &entry, note),
         None => (),
     }
 }
 
-/// A session learns what it is told of a write: the write's own entry, and then the one at the other end.
-pub(crate) fn learn_both(sessions: &mut Sessions, session: u32, told: LearntEntries)
-    requires { MayLearnNow session told sessions.old }
-    ensures { LearnsBoth session told (sessions_of sessions.old) (sessions_of sessions.new) }
+/// A session learns both entries of a write: the write's own entry, and then the one at the other end.
+pub(crate) fn learn_both(sessions: &mut Sessions, session: u32, learnt: LearntEntries)
+    requires { MayLearnNow session learnt sessions.old }
+    ensures { LearnsBoth session learnt (sessions_of sessions.old) (sessions_of sessions.new) }
 {
-    let LearntEntries { here, other } = told;
+    let LearntEntries { here, other } = learnt;
     learn_through(sessions, session, here);
     learn_through(sessions, session, other);
 }

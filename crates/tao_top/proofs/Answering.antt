@@ -19,7 +19,7 @@ use Rattle.tao_top.proofs.GoingOn.{whole_part}
 use Rattle.tao_top.specs.Begun.{Begins, RepliesFirst}
 use Rattle.tao_top.specs.Making.{MadeAll, MadeInPart, under_way}
 use Rattle.tao_top.specs.Served.{Answered, AnsweredInPart, AppendsPart, AreGiven, AreLines, Done, DoneInPart, GivenBegin, IsStill, LinesBegin, ServedAll}
-use Rattle.tao_top.specs.Served.{ServedInPart, given_by, joined, printed, requests_by, serves, start, streams, told_configured, unless_configured}
+use Rattle.tao_top.specs.Served.{ServedInPart, given_by, joined, printed, requests_by, serves, start, streams, said_configured, unless_configured}
 use Rattle.tao_top.specs.Step.{Configures, Given, ReplyLine, Runs, State, TakesLine, line_at, line_read, request_made, serving}
 use Rattle.topology.specs.Config.{Settings}
 
@@ -76,7 +76,7 @@ printed_first (Gen seed calls) line r is = append-nil (unless_configured r.reply
 
 -- of that reply
 pub printed_configured : (words : Words) (line : List ℕ) (core : CoreState)
-    → printed (Ok words) (line_read line ∷ []) (line_at (serving core) Configured ∷ []) ≡ told_configured words core
+    → printed (Ok words) (line_read line ∷ []) (line_at (serving core) Configured ∷ []) ≡ said_configured words core
 printed_configured (Run sql) line core = append-nil (line_at (serving core) Configured).text
 printed_configured (Gen seed calls) line core = refl
 

@@ -20,11 +20,11 @@ use Rattle.tao_io.specs.declared.lines.NextLine.TheVariants.{End}
 use Rattle.tao_top.proofs.Answering.{answered_first, answered_none, printed_configured, printed_first}
 use Rattle.tao_top.proofs.GoingOn.{GivesLines-all, GivesLines-begin, still_refl}
 use Rattle.tao_top.proofs.OneLine.{no_configuration}
-use Rattle.tao_top.specs.Begun.{EndsAtFirst, GivesOne, RefusesFirst, RefusesFor, RefusesInPart, RefusesLine, RepliesFirst, ConfiguredInPart, TellsDisagreement}
+use Rattle.tao_top.specs.Begun.{EndsAtFirst, GivesOne, RefusesFirst, RefusesFor, RefusesInPart, RefusesLine, RepliesFirst, ConfiguredInPart, SaysDisagreement}
 use Rattle.core_nodes.specs.Outside.{Outside, outside}
 use Rattle.tao_top.specs.Served.{AppendsPart, AreLines, EndsInPart, OpensInPart, RefusesConfiguration, StopsOpening, ends_with, printed, refusal_line, serves}
 use Rattle.tao_top.specs.Served.{AtOpeningOrLater, StoresDisagree, disagreement_line}
-use Rattle.tao_top.specs.Served.{start, streams, told_configured, unless_configured}
+use Rattle.tao_top.specs.Served.{start, streams, said_configured, unless_configured}
 use Rattle.tao_top.specs.Step.{ReplyLine, State, disagreeing, ended, Configures, Disagreement, Step, line_at, line_read}
 use Rattle.topology.specs.Config.{Settings}
 
@@ -136,14 +136,14 @@ module _ (tells : Bool) (old now : Outside) (line : List ℕ) (s : Settings) (co
 
     pub begins : (core : CoreState) → core.settings ≡ s → IsNewCore core → IsCoreOf tells now.keepers.told core
         → WhereTold tells (AreAtStores now.keepers.told core.fleet)
-        → WhereTold tells (IsOpened s line old.keepers.told now.keepers.told) → Appends before after (told_configured words core)
+        → WhereTold tells (IsOpened s line old.keepers.told now.keepers.told) → Appends before after (said_configured words core)
         → RepliesFirst words tells (start old) line (serves core now) (Appends before after)
     begins core is begun of_core ends opened written =
         (Configured, takes core is begun of_core ends opened, subst (Appends before after) (sym (printed_configured words line core)) written)
 
     pub begun_silent : (core : CoreState) → core.settings ≡ s → IsNewCore core → IsCoreOf tells now.keepers.told core
         → WhereTold tells (AreAtStores now.keepers.told core.fleet)
-        → WhereTold tells (IsOpened s line old.keepers.told now.keepers.told) → AppendsPart before after (told_configured words core)
+        → WhereTold tells (IsOpened s line old.keepers.told now.keepers.told) → AppendsPart before after (said_configured words core)
         → (code : ℕ) → AtOpeningOrLater code (OpensInPart tells old now line before after) (ConfiguredInPart words tells old now line (AppendsPart before after))
     begun_silent core is begun of_core ends opened written code = inr (
       serves core now,
@@ -179,8 +179,8 @@ module _ (tells : Bool) (old now : Outside) (line : List ℕ) (s : Settings) (co
         still_refl tells now (parting s now) refl,
       )
 
-      pub tells_disagreement : Appends before after (disagreement_line disagreement) → TellsDisagreement tells old now line before after
-      tells_disagreement written = record {
+      pub says_disagreement : Appends before after (disagreement_line disagreement) → SaysDisagreement tells old now line before after
+      says_disagreement written = record {
         found = disagreement;
         disagree = record { configured = configured; disagree = disagree; link = stays };
         written = written;
@@ -195,7 +195,7 @@ pub begun_whatever : (words : Words) (tells : Bool) (old now : KeeperState) (lin
     (later : IsLater old now) (before after : Option (List ℕ)) (core : CoreState)
     → core.settings ≡ s → IsNewCore core → IsCoreOf tells now.told core → WhereTold tells (AreAtStores now.told core.fleet)
     → WhereTold tells (IsOpened s line old.told now.told)
-    → AppendsPart before after (told_configured words core)
+    → AppendsPart before after (said_configured words core)
     → (code : ℕ) (link : LinkShown) → AtOpeningOrLater code (OpensInPart tells (outside old link) (outside now link) line before after)
     (ConfiguredInPart words tells (outside old link) (outside now link) line (AppendsPart before after))
 begun_whatever words tells old now line s configured later before after core is begun of_core ends opened written code link =
@@ -216,7 +216,7 @@ module _ (tells : Bool) (old now : Outside) (left rest before after : Option (Li
   pub refuses_line : RefusesLine tells old now line before after → RefusesConfiguration tells old now left before after
   refuses_line r = record { field = r.field; refused = inr (line, GivesLines-begin left rest (line ∷ []) read, r.refused); written = r.written }
 
-  pub stores_disagree : TellsDisagreement tells old now line before after → StoresDisagree tells old now left before after
+  pub stores_disagree : SaysDisagreement tells old now line before after → StoresDisagree tells old now left before after
   stores_disagree tell = record {
     line = line;
     read = GivesLines-begin left rest (line ∷ []) read;

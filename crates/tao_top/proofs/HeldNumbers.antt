@@ -279,10 +279,10 @@ module _ (old new : Moment) (held : List ℕ) (are : ArePlans held old.core.plan
       → has_number was by.number ≡ true → ((ended : Reply) → IsOver by.plan ended → says_next ended ≡ false)
       → Leaves asked by next (held_seen plans old.core.sessions pens) reply (held_in new.core) → Now (if says_next reply then was else without by.number was)
   leaves_on asked by (Some stage) was plans pens reply they there over goes =
-      subst (λ b. Now (if b then was else without by.number was)) (sym (ap says_next goes.told))
+      subst (λ b. Now (if b then was else without by.number was)) (sym (ap says_next goes.said))
       (one_changed by.number was plans new.core.plans they by.plan there goes.changes)
   leaves_on asked by None was plans pens reply they there over ends =
-      let none = ap says_next ends.told ∙ numbered_ends by.number ends.ended (over ends.ended ends.over) in
+      let none = ap says_next ends.said ∙ numbered_ends by.number ends.ended (over ends.ended ends.over) in
       subst (λ b. Now (if b then was else without by.number was)) (sym none) (one_less by.number was plans new.core.plans they there ends.takes)
 
   unbegun_ends : (states : NodeStates) (sessions : List Session) (asked : CheckedCall) (reply : Reply) → IsNotBegun states sessions asked reply

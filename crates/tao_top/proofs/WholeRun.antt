@@ -18,7 +18,7 @@ use Rattle.tao_keeper.specs.Table.{Tables}
 use Rattle.tao_top.proofs.Answering.{answered_whole}
 use Rattle.tao_top.proofs.FirstLine.{begun_part, refuses_line, stops_opening, stores_disagree}
 use Rattle.tao_top.proofs.GoingOn.{GivesLines-begin}
-use Rattle.tao_top.specs.Begun.{Begins, EndsAtFirst, GivesOne, RefusesFirst, RefusesLine, RepliesFirst, ConfiguredInPart, TellsDisagreement}
+use Rattle.tao_top.specs.Begun.{Begins, EndsAtFirst, GivesOne, RefusesFirst, RefusesLine, RepliesFirst, ConfiguredInPart, SaysDisagreement}
 use Rattle.tao_top.specs.Kept.{MayRun}
 use Rattle.core_nodes.specs.Outside.{Outside}
 use Rattle.tao_top.specs.Served.{AppendsPart, AtOpeningOrLater, Done, DoneInPart, EndsInPart, FailsOpening, LinesBegin, OpensInPart, RefusesConfiguration}
@@ -64,7 +64,7 @@ module _ (tells : Bool) (old mid : Outside) (known left rest before silent after
   begun_refused refuses = subst (λ l. RefusesConfiguration tells old mid l before after) is
       (subst (λ w. RefusesConfiguration tells old mid known w after) same (refuses_line tells old mid known rest silent after line read refuses))
 
-  pub begun_disagree : TellsDisagreement tells old mid line silent after → StoresDisagree tells old mid left before after
+  pub begun_disagree : SaysDisagreement tells old mid line silent after → StoresDisagree tells old mid left before after
   begun_disagree tell = subst (λ l. StoresDisagree tells old mid l before after) is
       (subst (λ w. StoresDisagree tells old mid known w after) same (stores_disagree tells old mid known rest silent after line read tell))
 

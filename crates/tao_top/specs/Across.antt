@@ -72,6 +72,6 @@ pub record RunsStandAcross : Type 0 where
   -- it stands once, by the same configuration: the log of its shard has no two entries of one origin
   pub once : (first second : Ran) → Follows first second → (s : Settings) (write : CheckedWrite) (position : ℕ) → HasAcknowledged first s write position
       → IsBy second s → HasEachOnce (log_of (stores_in s second.new).logs (write_shard write.write))
-  -- so the second, asked to write it again, tells the same position
-  pub again : (first second : Ran) → Follows first second → (s : Settings) (write : CheckedWrite) (position told : ℕ)
-      → HasAcknowledged first s write position → HasAcknowledged second s write told → told ≡ position
+  -- so the second, asked to write it again, says the same position
+  pub again : (first second : Ran) → Follows first second → (s : Settings) (write : CheckedWrite) (position said : ℕ)
+      → HasAcknowledged first s write position → HasAcknowledged second s write said → said ≡ position

@@ -56,7 +56,7 @@ pub record RefusesLine (tells : Bool) (old now : Outside) (line : List ℕ) (bef
   pub written : Appends before after (refusal_line field)
 
 -- the stores of the line's configuration disagree, and the line that says so was written
-pub record TellsDisagreement (tells : Bool) (old now : Outside) (line : List ℕ) (before after : Option (List ℕ)) : Type 0 where
+pub record SaysDisagreement (tells : Bool) (old now : Outside) (line : List ℕ) (before after : Option (List ℕ)) : Type 0 where
   pub found : Disagreement
   pub disagree : FindsDisagreement tells old line found now
   pub written : Appends before after (disagreement_line found)

@@ -84,9 +84,9 @@ printed (Ok (Gen seed calls)) given replies = summed calls 0 given replies
 printed (Err refused) given replies = joined replies
 
 -- what a run prints of the reply that its configuration was taken
-abbrev pub told_configured : Words → CoreState → List ℕ
-told_configured (Run sql) core = reply_line (serving core) Configured
-told_configured (Gen seed calls) core = []
+abbrev pub said_configured : Words → CoreState → List ℕ
+said_configured (Run sql) core = reply_line (serving core) Configured
+said_configured (Gen seed calls) core = []
 
 -- ---- what was served
 
@@ -179,7 +179,7 @@ pub record OpensInPart (tells : Bool) (old now : Outside) (line : List ℕ) (bef
 abbrev pub refusal_line : List ℕ → List ℕ
 refusal_line field = reply_line ended (BadConfiguration field)
 
--- the line that tells of stores that disagree
+-- the line that says that stores disagree
 abbrev pub disagreement_line : Disagreement → List ℕ
 disagreement_line found = reply_line (disagreeing found.settings) (BadStores found.store found.position)
 

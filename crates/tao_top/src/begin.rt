@@ -7,14 +7,14 @@ ghost use Rattle.core_nodes.specs.Opening.{MayOpen};
 ghost use Rattle.tao_io.specs.LineReader.{most_ahead, to_come};
 ghost use Rattle.tao_io.specs.Lines.{CountsTaken, GivesLines};
 ghost use Rattle.tao_top.specs.Begun.{ConfiguredInPart, EndsAtFirst, GivesOne, RefusesFirst, RefusesFor, RefusesInPart, RefusesLine};
-ghost use Rattle.tao_top.specs.Begun.{RepliesFirst, StopsBeginning, TellsDisagreement};
+ghost use Rattle.tao_top.specs.Begun.{RepliesFirst, StopsBeginning, SaysDisagreement};
 ghost use Rattle.tao_link.specs.Shown.{LinkShown};
 ghost use Rattle.tao_top.specs.Kept.{LeavesTables, MayServe};
 ghost use Rattle.core_nodes.specs.Outside.{outside};
-ghost use Rattle.tao_top.specs.Served.{AppendsPart, OpensInPart, serves, start, AtOpeningOrLater, told_configured};
+ghost use Rattle.tao_top.specs.Served.{AppendsPart, OpensInPart, serves, start, AtOpeningOrLater, said_configured};
 ghost use Rattle.tao_top.specs.Stop.{FaultsGrow, InterruptsWriting, StopHasCause, faults, stop_code};
 
-use crate::lines::{refuse, tell_disagreement};
+use crate::lines::{refuse, say_disagreement};
 use crate::serving::Serving;
 use crate::stop::{Interrupt, Stop};
 use command_words::Words;
@@ -83,14 +83,14 @@ pub(crate) fn read_first<R: Source, S: Sink>(
     }
 }
 
-/// Tells that the configuration was taken, where the words ask for the reply to each line.
-fn tell_configured<S: Sink>(
+/// Says that the configuration was taken, where the words ask for the reply to each line.
+fn say_configured<S: Sink>(
     words: &Words,
     serving: &Serving<'_>,
     output: &mut S,
 ) -> Result<(), Interrupt>
-    ensures ok { OnOk result (Appends (S.taken output.old) (S.taken output.new) (told_configured words.now serving.now)) }
-    ensures err { OnErr result (AppendsPart (S.taken output.old) (S.taken output.new) (told_configured words.now serving.now)) }
+    ensures ok { OnOk result (Appends (S.taken output.old) (S.taken output.new) (said_configured words.now serving.now)) }
+    ensures err { OnErr result (AppendsPart (S.taken output.old) (S.taken output.new) (said_configured words.now serving.now)) }
     ensures cause { IfErr result (InterruptsWriting (S.faults output.old) (S.faults output.new)) }
     ensures later { S.faults output.old ≤ S.faults output.new }
 {
@@ -132,7 +132,7 @@ pub(crate) fn begin<'c, S: Sink, K: Keeper>(
     ensures refused { result ≡ Err Stop.Configuration → (link : LinkShown) → RefusesLine K.TELLS
         (outside (K.state keepers.old) link) (outside (K.state keepers.new) link) first.now.line.items
         (S.taken output.old) (S.taken output.new) }
-    ensures stores { result ≡ Err Stop.Stores → (link : LinkShown) → TellsDisagreement K.TELLS
+    ensures stores { result ≡ Err Stop.Stores → (link : LinkShown) → SaysDisagreement K.TELLS
         (outside (K.state keepers.old) link) (outside (K.state keepers.new) link) first.now.line.items
         (S.taken output.old) (S.taken output.new) }
     ensures tables { LeavesTables K.TELLS (K.state keepers.old) (K.state keepers.new) }
@@ -141,7 +141,7 @@ pub(crate) fn begin<'c, S: Sink, K: Keeper>(
 {
     match Serving::open(alloc, &first.config, &first.line, keepers) {
         Ok(serving) => {
-            match tell_configured(words, &serving, output) {
+            match say_configured(words, &serving, output) {
                 Ok(()) => Ok(serving),
                 Err(interrupt) => {
                     drop(serving);
@@ -152,7 +152,7 @@ pub(crate) fn begin<'c, S: Sink, K: Keeper>(
         Err(OpenRefusal::OtherLine) => Err(refuse(alloc, output, "file")),
         Err(OpenRefusal::KeeperFault) => Err(Stop::Keepers),
         Err(OpenRefusal::OutOfMemory) => Err(Stop::Interrupted(Interrupt::Memory)),
-        Err(OpenRefusal::Disagree { store, position }) => Err(tell_disagreement(
+        Err(OpenRefusal::Disagree { store, position }) => Err(say_disagreement(
             alloc,
             &first.config,
             output,

@@ -80,7 +80,7 @@ fn say_refusal<S: Sink>(alloc: Global, output: &mut S, field: &str) -> Result<()
     write_line(output, text)
 }
 
-/// Refuses the configuration for a field. The stop says whether the line that tells it was written whole.
+/// Refuses the configuration for a field. The stop says whether the line that says it was written whole.
 pub(crate) fn refuse<S: Sink>(alloc: Global, output: &mut S, field: &str) -> Stop
     ensures whole { result ≡ Stop.Configuration → Appends (S.taken output.old) (S.taken output.new) (refusal_line field.now) }
     ensures part { AppendsPart (S.taken output.old) (S.taken output.new) (refusal_line field.now) }
@@ -95,9 +95,9 @@ pub(crate) fn refuse<S: Sink>(alloc: Global, output: &mut S, field: &str) -> Sto
     }
 }
 
-/// Tells of a store of the configuration whose log differs from its master's first at the position. The stop says whether the line that tells
+/// Says of a store of the configuration that its log differs from its master's first at the position. The stop says whether the line that says
 /// it was written whole.
-pub(crate) fn tell_disagreement<S: Sink>(
+pub(crate) fn say_disagreement<S: Sink>(
     alloc: Global,
     config: &Config,
     output: &mut S,

@@ -50,8 +50,8 @@ impl Making {
         })
     }
 
-    /// Writes what is told at a request whose reply this is: at the settling the sum of the replies and that reply, else nothing.
-    fn tell_at<S: Sink>(
+    /// Writes what is said at a request whose reply this is: at the settling the sum of the replies and that reply, else nothing.
+    fn say_at<S: Sink>(
         &self,
         served: &Serving<'_>,
         output: &mut S,
@@ -73,7 +73,7 @@ impl Making {
         }
     }
 
-    /// Makes the next request, answers it, and writes what is told at it. Says whether there was one.
+    /// Makes the next request, answers it, and writes what is said at it. Says whether there was one.
     fn make_next<S: Sink, K: Keeper, L: Link>(
         &mut self,
         serving: &mut Serving<'_>,
@@ -100,12 +100,12 @@ impl Making {
             None => Ok(false),
             Some(request) => {
                 let reply = serving.call(keepers, link, &request);
-                let told = self.tell_at(serving, output, &request, &reply);
+                let said = self.say_at(serving, output, &request, &reply);
                 self.refused += refusals(&request, &reply);
                 output.progress(self.calls - self.workload.calls_left(), self.calls);
                 drop(request);
                 drop(reply);
-                told?;
+                said?;
                 Ok(true)
             }
         }

@@ -1,4 +1,4 @@
-//! Why a run ends before the end of its input, and the status that tells it.
+//! Why a run ends before the end of its input, and the status that says it.
 ghost use Rattle.std.specs.Prelude.{◌≡◌};
 ghost use Rattle.tao_top.specs.Stop.{interrupt_code, stop_code};
 

@@ -221,13 +221,13 @@ record DidJob (b : Writing) (c : Committed) (cs : List Came) (q : Writing) : Typ
   of_job : List Came
   of_way : List Came
   came_is : cs ≡ of_job ++ of_way
-  told : CameOfJob c.wrote.job c.paired of_job other (inverse_said (has_other c) job)
+  said : CameOfJob c.wrote.job c.paired of_job other (inverse_said (has_other c) job)
   way : CameBack c.passed of_way
   is : q ≡ came_back (record b { relay = relay }) c job other hops
 
-told_of_paired : (paired : Bool) → inverse_said paired Due ≡ (if paired then inverse.Written else inverse.None)
-told_of_paired true = refl
-told_of_paired false = refl
+said_of_paired : (paired : Bool) → inverse_said paired Due ≡ (if paired then inverse.Written else inverse.None)
+said_of_paired true = refl
+said_of_paired false = refl
 
 done_inverse : stage.Done ≡ stage.Inverse → ⊥
 done_inverse is = cc
@@ -252,8 +252,8 @@ module _ (b : Writing) (c : Committed) where
             of_job = [];
             of_way = cs;
             came_is = refl;
-            told = subst (λ f. CameOfJob f c.paired [] None (inverse_said (has_other c) Due)) (sym e)
-                (refl, refl, ap (λ p. inverse_said p Due) has ∙ told_of_paired c.paired);
+            said = subst (λ f. CameOfJob f c.paired [] None (inverse_said (has_other c) Due)) (sym e)
+                (refl, refl, ap (λ p. inverse_said p Due) has ∙ said_of_paired c.paired);
             way = w.way;
             is = w.is;
           })
@@ -278,7 +278,7 @@ module _ (b : Writing) (c : Committed) where
         → (EndsInTime of_job o (inverse_said (has_other c) j)
         ⊎ (EndsLeftOpen of_job o (inverse_said (has_other c) j) ⊎ MergesLeftOpen of_job o (inverse_said (has_other c) j)))
         → WentBack b c j o cs q → DidJob b c whole q
-    did j o of_job cs whole q is told w = record {
+    did j o of_job cs whole q is said w = record {
       job = j;
       other = o;
       hops = w.hops;
@@ -286,7 +286,7 @@ module _ (b : Writing) (c : Committed) where
       of_job = of_job;
       of_way = cs;
       came_is = is;
-      told = subst (λ f. CameOfJob f c.paired of_job o (inverse_said (has_other c) j)) (sym e) told;
+      said = subst (λ f. CameOfJob f c.paired of_job o (inverse_said (has_other c) j)) (sym e) said;
       way = w.way;
       is = w.is;
     }
@@ -297,7 +297,7 @@ module _ (b : Writing) (c : Committed) where
     end_first wrote m h (End (Ok done)) n rest q takes =
         before_part 2 (came (End (Ok done)) n) rest q (WentBack b c Ended (Some wrote) rest q) _
         (did Ended (Some wrote) (came (Inverse (Ok wrote)) m ∷ came (End (Ok tt)) n ∷ []) rest _ q refl
-        (inl (record { wrote = wrote; merges = m; ends = n; came_is = refl; other_is = refl; told_is = ap (λ x. inverse_said x Ended) has_job })))
+        (inl (record { wrote = wrote; merges = m; ends = n; came_is = refl; other_is = refl; said_is = ap (λ x. inverse_said x Ended) has_job })))
         (way_part b c Ended (Some wrote) (nothing_left Ended refl) (hops_after h n) rest q takes.1)
     end_first wrote m h (End (Err (Scheduled why more))) n rest q takes =
         before_part 2 (came (End (Err (Scheduled why more))) n) rest q (WentBack b c (Open why) (Some wrote) rest q) _
@@ -310,7 +310,7 @@ module _ (b : Writing) (c : Committed) where
           ends = n;
           came_is = refl;
           other_is = refl;
-          told_is = ap (λ x. inverse_said x (Open why)) has_job;
+          said_is = ap (λ x. inverse_said x (Open why)) has_job;
         }))))
         (way_part b c (Open why) (Some wrote) (nothing_left (Open why) refl) (hops_after h n) rest q takes.1)
     end_first wrote m h (End (Err (Refused reply))) n rest q takes =
@@ -336,7 +336,7 @@ module _ (b : Writing) (c : Committed) where
         let part = way_part b c (Open why) wrote (nothing_left (Open why) refl) (hops_after h n) rest q takes.1 in
         before_part 3 (came (Inverse (Err (Scheduled why wrote))) n) rest q (WentBack b c (Open why) wrote rest q) _
         (did (Open why) wrote (came (Inverse (Err (Scheduled why wrote))) n ∷ []) rest _ q refl
-        (inr (inr (record { why = why; merges = n; came_is = refl; told_is = ap (λ x. inverse_said x (Open why)) has_job }))))
+        (inr (inr (record { why = why; merges = n; came_is = refl; said_is = ap (λ x. inverse_said x (Open why)) has_job }))))
         (record { few = let low : length rest ≤ 2 = part.few in omega arith; done = part.done })
     inverse_first h (Inverse (Err (Refused reply))) n rest q takes =
         refused_here 3 (came (Inverse (Err (Refused reply))) n) rest (after_stage (going b c Due None Ahead h) (Inverse (Err (Refused reply))) n) q reply _
@@ -359,25 +359,25 @@ module _ (b : Writing) (c : Committed) where
 -- ---- the commit
 
 -- the reply names the entry
-tells_by : (retry : Bool) (told : InverseEnd) (found : Option Entry)
-    → IfSome found (λ e. ((written_by retry told found).changed ≡ true) × ((written_by retry told found).position ≡ e.position)
-    × ((written_by retry told found).inverse ≡ told))
-    × IfNone found (((written_by retry told found).changed ≡ false) × ((written_by retry told found).position ≡ 0)
-    × ((written_by retry told found).inverse ≡ inverse.None))
-    × ((written_by retry told found).retry ≡ retry)
-tells_by retry told (Some e) = ((refl, refl, refl), tt, refl)
-tells_by retry told None = (tt, (refl, refl, refl), refl)
+says_by : (retry : Bool) (said : InverseEnd) (found : Option Entry)
+    → IfSome found (λ e. ((written_by retry said found).changed ≡ true) × ((written_by retry said found).position ≡ e.position)
+    × ((written_by retry said found).inverse ≡ said))
+    × IfNone found (((written_by retry said found).changed ≡ false) × ((written_by retry said found).position ≡ 0)
+    × ((written_by retry said found).inverse ≡ inverse.None))
+    × ((written_by retry said found).retry ≡ retry)
+says_by retry said (Some e) = ((refl, refl, refl), tt, refl)
+says_by retry said None = (tt, (refl, refl, refl), refl)
 
 carried_out : (b : Writing) (answer : CommitAnswer) (n : ℕ) (cs : List Came) (q : Writing) → q.hops ≡ min (n + carries_of cs) most_hops
     → DidJob b answer.committed cs q → IsCarriedOut (came (Commit (Ok answer)) n ∷ cs) q
 carried_out b answer n cs q sum g =
     let c = answer.committed in
-    let told = inverse_said (has_other c) g.job in
-    let tells = tells_by c.wrote.retry told c.wrote.entry in
+    let said = inverse_said (has_other c) g.job in
+    let says = says_by c.wrote.retry said c.wrote.entry in
     record {
       committed = c;
-      told = told;
-      reply = record { kind = c.kind; written = written_by c.wrote.retry told c.wrote.entry; hops = g.hops };
+      said = said;
+      reply = record { kind = c.kind; written = written_by c.wrote.retry said c.wrote.entry; hops = g.hops };
       answered = ap (λ p. p.committed) g.is;
       stages = record {
         answer = answer;
@@ -386,15 +386,15 @@ carried_out b answer n cs q sum g =
         of_job = g.of_job;
         of_way = g.of_way;
         came_is = ap (λ l. came (Commit (Ok answer)) n ∷ l) g.came_is;
-        job = subst (λ o. CameOfJob c.wrote.job c.paired g.of_job o told) (sym (ap (λ p. p.other) g.is)) g.told;
+        job = subst (λ o. CameOfJob c.wrote.job c.paired g.of_job o said) (sym (ap (λ p. p.other) g.is)) g.said;
         way = g.way;
       };
       reply_is = ap reply_of g.is;
-      tells = record {
+      says = record {
         kind_is = refl;
-        retry_is = tells.2;
-        entry = tells.0;
-        nothing = tells.1;
+        retry_is = says.2;
+        entry = says.0;
+        nothing = says.1;
         hops_is = sym (ap (λ p. p.hops) g.is) ∙ sum;
       };
     }

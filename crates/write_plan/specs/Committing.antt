@@ -17,7 +17,7 @@ IsAdding (AssocAdd id1 atype id2 time payload) = ⊥
 IsAdding (AssocDelete id1 atype id2) = ⊥
 IsAdding (AssocChangeType id1 atype id2 newtype) = ⊥
 
--- which write it was, as a reply tells it: an object's addition by the id that its entry gave
+-- which write it was, as a reply says it: an object's addition by the id that its entry gave
 abbrev pub kind_said : Write → Option Entry → Option WriteKind
 kind_said (ObjAdd shard otype payload) None = None
 kind_said (ObjAdd shard otype payload) (Some entry) = option_map kind.ObjAdd (first_put entry.touches)

@@ -1,4 +1,4 @@
--- What a plan is, over all results that it takes: its stages in order, its carries, and what its reply tells.
+-- What a plan is, over all results that it takes: its stages in order, its carries, and what its reply says.
 use Rattle.std.specs.Prelude.{ℕ, ◌≡◌, ◌+◌, ◌≤◌, ◌⊎◌, Bool, true, false, if◌then◌else◌, List, [], ◌∷◌, ◌++◌, length, min, Option, Some, None, IfNone}
 use Rattle.std.specs.Prelude.{IfSome, Ok, Err}
 use Rattle.hop_count.specs.Hops.{most_hops}
@@ -45,16 +45,16 @@ carries_of (c ∷ rest) = c.hops + carries_of rest
 -- ---- a write that is carried out
 
 -- the job of the write was merged and then removed: the inverse is written
-pub record EndsInTime (cs : List Came) (other : Option Wrote) (told : InverseEnd) : Type 0 where
+pub record EndsInTime (cs : List Came) (other : Option Wrote) (said : InverseEnd) : Type 0 where
   pub wrote : Wrote
   pub merges : ℕ
   pub ends : ℕ
   pub came_is : cs ≡ came (Inverse (Ok wrote)) merges ∷ came (End (Ok tt)) ends ∷ []
   pub other_is : other ≡ Some wrote
-  pub told_is : told ≡ inverse.Written
+  pub said_is : said ≡ inverse.Written
 
 -- the job of the write was merged and not removed: the inverse is scheduled, for that reason
-pub record EndsLeftOpen (cs : List Came) (other : Option Wrote) (told : InverseEnd) : Type 0 where
+pub record EndsLeftOpen (cs : List Came) (other : Option Wrote) (said : InverseEnd) : Type 0 where
   pub wrote : Wrote
   pub why : ScheduledWhy
   pub more : Option Wrote
@@ -62,20 +62,20 @@ pub record EndsLeftOpen (cs : List Came) (other : Option Wrote) (told : InverseE
   pub ends : ℕ
   pub came_is : cs ≡ came (Inverse (Ok wrote)) merges ∷ came (End (Err (Scheduled why more))) ends ∷ []
   pub other_is : other ≡ Some wrote
-  pub told_is : told ≡ inverse.Scheduled why
+  pub said_is : said ≡ inverse.Scheduled why
 
 -- the job of the write was not merged, or its answer lost: the inverse is scheduled, for that reason, and what was written is kept
-pub record MergesLeftOpen (cs : List Came) (other : Option Wrote) (told : InverseEnd) : Type 0 where
+pub record MergesLeftOpen (cs : List Came) (other : Option Wrote) (said : InverseEnd) : Type 0 where
   pub why : ScheduledWhy
   pub merges : ℕ
   pub came_is : cs ≡ came (Inverse (Err (Scheduled why other))) merges ∷ []
-  pub told_is : told ≡ inverse.Scheduled why
+  pub said_is : said ≡ inverse.Scheduled why
 
--- what came of the job that the commit answered, with what was written at the other end and how the inverse is then told. Without one
+-- what came of the job that the commit answered, with what was written at the other end and how the inverse is then said. Without one
 -- there is no such stage, and the inverse is written where the write's type has one
 abbrev pub CameOfJob : Option Job → Bool → List Came → Option Wrote → InverseEnd → Type 0
-CameOfJob None paired cs other told = (cs ≡ []) × (other ≡ None) × (told ≡ (if paired then inverse.Written else inverse.None))
-CameOfJob (Some job) paired cs other told = EndsInTime cs other told ⊎ (EndsLeftOpen cs other told ⊎ MergesLeftOpen cs other told)
+CameOfJob None paired cs other said = (cs ≡ []) × (other ≡ None) × (said ≡ (if paired then inverse.Written else inverse.None))
+CameOfJob (Some job) paired cs other said = EndsInTime cs other said ⊎ (EndsLeftOpen cs other said ⊎ MergesLeftOpen cs other said)
 
 -- the follower took the changes
 pub record Applies (cs : List Came) : Type 0 where
@@ -94,33 +94,33 @@ CameBack None cs = Applies cs
 CameBack (Some leader) cs = RelaysAndApplies cs
 
 -- the commit answered this, with notes for its way back; then came the stages of its job, and then the way back
-pub record CameInOrder (c : Committed) (cs : List Came) (other : Option Wrote) (told : InverseEnd) : Type 0 where
+pub record CameInOrder (c : Committed) (cs : List Came) (other : Option Wrote) (said : InverseEnd) : Type 0 where
   pub answer : CommitAnswer
   pub answer_is : answer.committed ≡ c
   pub commits : ℕ
   pub of_job : List Came
   pub of_way : List Came
   pub came_is : cs ≡ came (Commit (Ok answer)) commits ∷ (of_job ++ of_way)
-  pub job : CameOfJob c.wrote.job c.paired of_job other told
+  pub job : CameOfJob c.wrote.job c.paired of_job other said
   pub way : CameBack c.passed of_way
 
 -- a reply names the entry that the commit answered, or none where it answered none
-pub record Tells (c : Committed) (told : InverseEnd) (hops : ℕ) (w : WriteReply) : Type 0 where
+pub record SaysWritten (c : Committed) (said : InverseEnd) (hops : ℕ) (w : WriteReply) : Type 0 where
   pub kind_is : w.kind ≡ c.kind
   pub retry_is : w.written.retry ≡ c.wrote.retry
-  pub entry : IfSome c.wrote.entry (λ e. (w.written.changed ≡ true) × (w.written.position ≡ e.position) × (w.written.inverse ≡ told))
+  pub entry : IfSome c.wrote.entry (λ e. (w.written.changed ≡ true) × (w.written.position ≡ e.position) × (w.written.inverse ≡ said))
   pub nothing : IfNone c.wrote.entry ((w.written.changed ≡ false) × (w.written.position ≡ 0) × (w.written.inverse ≡ inverse.None))
   pub hops_is : w.hops ≡ hops
 
--- the write was carried out: its stages came in order, and its reply tells what was committed, what became of the inverse, and all carries
+-- the write was carried out: its stages came in order, and its reply says what was committed, what became of the inverse, and all carries
 pub record IsCarriedOut (cs : List Came) (p : Writing) : Type 0 where
   pub committed : Committed
-  pub told : InverseEnd
+  pub said : InverseEnd
   pub reply : WriteReply
   pub answered : p.committed ≡ Some committed
-  pub stages : CameInOrder committed cs p.other told
+  pub stages : CameInOrder committed cs p.other said
   pub reply_is : reply_of p ≡ Some (Called (OfWrite reply))
-  pub tells : Tells committed told (min (carries_of cs) most_hops) reply
+  pub says : SaysWritten committed said (min (carries_of cs) most_hops) reply
 
 -- ---- a write that is refused
 

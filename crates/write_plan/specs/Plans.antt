@@ -100,7 +100,7 @@ next_of p = stage_from p.refused p.committed p.job p.back
 abbrev pub refused_by : Writing → Reply → Writing
 refused_by p reply = record p { refused = Some reply }
 
--- what was written at the other end: the first that was told
+-- what was written at the other end: the first that is known
 abbrev pub written_there : Option Wrote → Option Wrote → Option Wrote
 written_there (Some before) more = Some before
 written_there None more = more
@@ -163,8 +163,8 @@ inverse_said false job = inverse.None
 
 -- what was written: by the entry that the commit answered, where it did
 abbrev pub written_by : Bool → InverseEnd → Option Entry → Written
-written_by retry told None = record { changed = false; inverse = inverse.None; position = 0; retry = retry }
-written_by retry told (Some entry) = record { changed = true; inverse = told; position = entry.position; retry = retry }
+written_by retry said None = record { changed = false; inverse = inverse.None; position = 0; retry = retry }
+written_by retry said (Some entry) = record { changed = true; inverse = said; position = entry.position; retry = retry }
 
 -- the reply to a write that was carried out
 abbrev pub reply_after : Committed → OtherEnd → ℕ → Reply

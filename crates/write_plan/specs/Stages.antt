@@ -1,7 +1,7 @@
--- Which stage a result comes of, and how a reply tells a stage.
+-- Which stage a result comes of, and how a reply names a stage.
 use Rattle.std.specs.Prelude.{Option, Some, None, Err}
 use Rattle.replies.specs.declared.plans.Stage.{Stage}
-use Rattle.replies.specs.declared.plans.Stage.TheVariants as told
+use Rattle.replies.specs.declared.plans.Stage.TheVariants as said
 use Rattle.replies.specs.declared.reply.Reply.{Reply}
 use Rattle.write_plan.specs.declared.results.LeftOpen.TheVariants.{Refused}
 use Rattle.write_plan.specs.declared.results.WriteResult.{WriteResult}
@@ -9,13 +9,13 @@ use Rattle.write_plan.specs.declared.results.WriteResult.TheVariants as came
 use Rattle.write_plan.specs.declared.stage.WriteStage.{WriteStage}
 use Rattle.write_plan.specs.declared.stage.WriteStage.TheVariants.{Commit, Inverse, End, Relay, Apply, Done}
 
--- how a reply tells a stage; none where nothing is left
+-- how a reply names a stage; none where nothing is left
 abbrev pub stage_said : WriteStage → Option Stage
-stage_said Commit = Some told.Commit
-stage_said Inverse = Some told.Inverse
-stage_said End = Some told.End
-stage_said Relay = Some told.Relay
-stage_said Apply = Some told.Apply
+stage_said Commit = Some said.Commit
+stage_said Inverse = Some said.Inverse
+stage_said End = Some said.End
+stage_said Relay = Some said.Relay
+stage_said Apply = Some said.Apply
 stage_said Done = None
 
 -- the stage that a result came of

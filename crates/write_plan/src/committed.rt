@@ -20,7 +20,7 @@ pub struct Committed {
     pub leader: NodeName,
     /// The leader of a slave region that was passed on the way there.
     pub passed: Option<NodeName>,
-    /// Which write it was, as its reply tells it.
+    /// Which write it was, as its reply says it.
     pub kind: WriteKind,
     /// Whether a type that the write names has an inverse.
     pub paired: bool,

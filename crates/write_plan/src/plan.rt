@@ -172,7 +172,7 @@ impl WritePlan {
         }
     }
 
-    /// Whether what ends the plan now ends it after its entry stands, which a refusal tells: where the commit answered an entry, also
+    /// Whether what ends the plan now ends it after its entry stands, which a refusal says: where the commit answered an entry, also
     /// one that stood there before.
     pub fn when(&self) -> When
         ensures { result ≡ when_of (answered_entry self.now) }

@@ -67,8 +67,8 @@ fn inverse_said(other: bool, job: OtherEnd) -> InverseEnd
 }
 
 /// What was written.
-fn written_by(retry: bool, told: InverseEnd, entry: &Option<Entry>) -> Written
-    ensures { result ≡ written_by retry told entry.now }
+fn written_by(retry: bool, said: InverseEnd, entry: &Option<Entry>) -> Written
+    ensures { result ≡ written_by retry said entry.now }
 {
     match entry {
         None => Written {
@@ -79,7 +79,7 @@ fn written_by(retry: bool, told: InverseEnd, entry: &Option<Entry>) -> Written
         },
         Some(entry) => Written {
             changed: true,
-            inverse: told,
+            inverse: said,
             position: entry.position,
             retry,
         },
@@ -90,10 +90,10 @@ fn written_by(retry: bool, told: InverseEnd, entry: &Option<Entry>) -> Written
 fn reply_after(committed: &Committed, job: OtherEnd, hops: u64) -> Reply
     ensures { result ≡ reply_after committed.now job hops }
 {
-    let told = inverse_said(has_other(committed), job);
+    let said = inverse_said(has_other(committed), job);
     Reply::Called(CallReply::Write(WriteReply {
         kind: committed.kind,
-        written: written_by(committed.wrote.retry, told, &committed.wrote.entry),
+        written: written_by(committed.wrote.retry, said, &committed.wrote.entry),
         hops,
     }))
 }

@@ -23,8 +23,8 @@ pub enum WriteStage {
 }
 
 impl WriteStage {
-    /// How a reply tells the stage; none where nothing is left.
-    pub fn told(self) -> Option<Stage>
+    /// How a reply names the stage; none where nothing is left.
+    pub fn said(self) -> Option<Stage>
         ensures { result ≡ stage_said self }
     {
         match self {

@@ -12,8 +12,8 @@ pub notify_besides-requires-clause-names : goal.notify_besides-requires-clause-n
 notify_besides-requires-clause-names c =
     sends_named _ _ c.args.nodes.now.mail c.notify_followers.new.self.mail c.notify_followers.ensures.sends ∙ c.requires.inboxes.names
 
-pub returns-clause-told : goal.returns-clause-told
-returns-clause-told c =
+pub returns-clause-notifies : goal.returns-clause-notifies
+returns-clause-notifies c =
     let was = c.args.nodes.now in
     let shard = c.args.shard in
     let mid = c.notify_followers.new.self.mail in

@@ -149,9 +149,9 @@ returns-clause-on g c =
     (subst (IsConsistent tells s found.told) (sym same) finds.consistent) finds.later) ran.ensures.on in
     let far = c.far_shard-far.result in
     let wrote = c.in-Ok.wrote in
-    let tells_of = c.notify_of_repair.ensures in
+    let notifies = c.notify_of_repair.ensures in
     posts_trans tells s old merged new on
     (posts_notified tells s ran.new.nodes c.notify_of_repair.new.nodes merged.keepers merged.link far wrote (can_post_on tells s old merged c.requires.ready on)
     c.masters_are_regions.ensures (subst (λ (n : Settings). far < n.shards) c.config.view_is c.if-far-config.false)
     (subst (λ n. IfSome wrote (StandsIn (pens_of merged.fleet.stores n))) (sym c.far_shard-far.ensures) c.in-Ok.ensures.stands)
-    tells_of.told tells_of.inboxes tells_of.rest)
+    notifies.notifies notifies.inboxes notifies.rest)

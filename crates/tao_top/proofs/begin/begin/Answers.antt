@@ -3,7 +3,7 @@ use Rattle.graph_model.specs.Told.{WhereTold}
 use Rattle.core_nodes.specs.Opening.{IsOpened, IsOtherLine, MayOpen, RefusesOpening}
 use Rattle.replies.specs.declared.opening.OpenRefusal.{OpenRefusal}
 use Rattle.replies.specs.declared.opening.OpenRefusal.TheVariants.{Disagree}
-use Rattle.tao_top.proofs.FirstLine.{begins, begun_disagreeing, begun_other, begun_whatever, refuses_other, tells_disagreement}
+use Rattle.tao_top.proofs.FirstLine.{begins, begun_disagreeing, begun_other, begun_whatever, refuses_other, says_disagreement}
 use Rattle.core_nodes.specs.Outside.{outside}
 use Rattle.tao_top.specs.Stop.{interrupt_code, stop_code}
 use Rattle.tao_top.specs.declared.stop.Stop.TheVariants.{Configuration, Stores}
@@ -20,15 +20,15 @@ returns-in-Err-clause-err g c =
     c.in-Ok.serving c.in-Ok.ensures.settings c.in-Ok.ensures.begun c.in-Ok.ensures.serving.of_core c.in-Ok.ensures.ends opened
     c.in-Err.ensures.err (interrupt_code c.in-Err.interrupt)
 
-pub returns-in-Ok-tell_configured-clause-ok : goal.returns-in-Ok-tell_configured-clause-ok
-returns-in-Ok-tell_configured-clause-ok g c =
+pub returns-in-Ok-say_configured-clause-ok : goal.returns-in-Ok-say_configured-clause-ok
+returns-in-Ok-say_configured-clause-ok g c =
     let keepers = g.K.Keeper.state in
     let opened = subst (λ l. WhereTold g.K.Keeper.TELLS
     (IsOpened c.args.first.now.config l (g.K.Keeper.state c.args.keepers.now).told (g.K.Keeper.state c.open.new.keepers).told)) c.deref.ensures.value
     c.in-Ok.ensures.opened in
     λ link. begins g.K.Keeper.TELLS (outside (keepers c.args.keepers.now) link)
     (outside (keepers c.open.new.keepers) link) c.args.first.now.line.items c.args.first.now.config c.requires.configured c.in-Ok.ensures.later refl c.args.words.now _ _
-    c.in-Ok.serving c.in-Ok.ensures.settings c.in-Ok.ensures.begun c.in-Ok.ensures.serving.of_core c.in-Ok.ensures.ends opened c.in-Ok-tell_configured.ensures.ok
+    c.in-Ok.serving c.in-Ok.ensures.settings c.in-Ok.ensures.begun c.in-Ok.ensures.serving.of_core c.in-Ok.ensures.ends opened c.in-Ok-say_configured.ensures.ok
 
 pub returns-in-Err-OtherLine-clause-err : goal.returns-in-Err-OtherLine-clause-err
 returns-in-Err-OtherLine-clause-err g c =
@@ -71,7 +71,7 @@ returns-in-Err-Disagree-clause-err g c =
     c.deref.ensures.value refused in
     λ link. begun_disagreeing g.K.Keeper.TELLS (outside (keepers c.args.keepers.now) link)
     (outside (keepers c.open.new.keepers) link) c.args.first.now.line.items c.args.first.now.config c.requires.configured c.in-Err-Disagree.ensures.later refl
-    c.args.words.now _ _ _ _ disagree c.tell_disagreement.ensures.part (stop_code c.tell_disagreement.result)
+    c.args.words.now _ _ _ _ disagree c.say_disagreement.ensures.part (stop_code c.say_disagreement.result)
 
 pub returns-in-Err-Disagree-clause-stores : goal.returns-in-Err-Disagree-clause-stores
 returns-in-Err-Disagree-clause-stores g c = λ e.
@@ -81,7 +81,7 @@ returns-in-Err-Disagree-clause-stores g c = λ e.
     (keepers c.open.new.keepers) r) c.in-Err-Disagree.field-0-is c.in-Err-Disagree.ensures.refused in
     let disagree = subst (λ l. RefusesOpening g.K.Keeper.TELLS c.args.first.now.config l (keepers c.args.keepers.now) (keepers c.open.new.keepers) found)
     c.deref.ensures.value refused in
-    let whole : c.tell_disagreement.result ≡ Stores = cc e in
-    λ link. tells_disagreement g.K.Keeper.TELLS (outside (keepers c.args.keepers.now) link)
+    let whole : c.say_disagreement.result ≡ Stores = cc e in
+    λ link. says_disagreement g.K.Keeper.TELLS (outside (keepers c.args.keepers.now) link)
     (outside (keepers c.open.new.keepers) link) c.args.first.now.line.items c.args.first.now.config c.requires.configured c.in-Err-Disagree.ensures.later refl
-    c.args.words.now _ _ _ _ disagree (c.tell_disagreement.ensures.whole whole)
+    c.args.words.now _ _ _ _ disagree (c.say_disagreement.ensures.whole whole)

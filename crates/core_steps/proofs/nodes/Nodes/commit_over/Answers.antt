@@ -81,8 +81,8 @@ returns-in-Ok-clause-committed g c =
           (λ told. g.met.K.Keeper.of_entries c.args.keepers.now (master_store s shard) told) c.in-Ok.ensures.done.answer c.in-Ok.ensures.done.tables;
       leader = record { note = wrote.note; takes = c.in-Ok.ensures.node };
       followers = c.in-Ok.ensures.followers;
-      told = subst (λ n. NotifiesOfNew was.topology c.args.route.leader n (new_entry wrote.retry wrote.entry) was.mail told.mail)
-          c.shard-shard.ensures c.notify_of_new.ensures.told;
+      notifies = subst (λ n. NotifiesOfNew was.topology c.args.route.leader n (new_entry wrote.retry wrote.entry) was.mail told.mail)
+          c.shard-shard.ensures c.notify_of_new.ensures.notifies;
       states = refl;
       link = c.in_default.ensures.ok;
       opens = c.in-Ok.ensures.done.job;
@@ -157,7 +157,7 @@ returns-in-Ok-clause-on g c =
           (of_new (StandsIn (pens shard)) wrote.retry wrote.entry (stands_in_log pens shard wrote.note wrote.entry
           (seen_there pens shard wrote.note wrote.entry c.in-Ok.ensures.seen c.in-Ok.ensures.done.stands)))
           (subst (λ n. NotifiesOfNew was.topology c.args.route.leader n (new_entry wrote.retry wrote.entry) was.mail told.mail)
-          c.shard-shard.ensures c.notify_of_new.ensures.told)
+          c.shard-shard.ensures c.notify_of_new.ensures.notifies)
           (arrived_grows tells (state c.args.keepers.now).told tables was.mail c.commit.ensures.done.logs ready.arrived);
       states = refl;
       goes = c.commit.ensures.goes;

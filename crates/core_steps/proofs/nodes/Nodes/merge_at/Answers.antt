@@ -34,7 +34,7 @@ returns-clause-on g c = λ before after later.
           was.topology c.args.leader wrote.entry was.mail told.mail c.requires.states
           (stands_in_log pens far wrote.note wrote.entry
           (seen_there pens far wrote.note wrote.entry c.in_ok-wrote.ensures.seen c.in_ok-wrote.ensures.done.stands))
-          (subst (λ n. NotifiesOfNew was.topology c.args.leader n wrote.entry was.mail told.mail) c.far_shard.ensures c.notify_of.ensures.told)
+          (subst (λ n. NotifiesOfNew was.topology c.args.leader n wrote.entry was.mail told.mail) c.far_shard.ensures c.notify_of.ensures.notifies)
           (arrived_grows tells (state c.args.keepers.now).told tables was.mail merges.done.logs c.requires.arrived);
       states = refl;
       goes = merges.goes;

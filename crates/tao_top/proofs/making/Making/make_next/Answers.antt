@@ -24,16 +24,16 @@ overflow_add-self g c =
     let count = c.refusals.ensures in
     omega (arith, counts, count)
 
-pub returns-in_err-told-in-Some-clause-counts : goal.returns-in_err-told-in-Some-clause-counts
-returns-in_err-told-in-Some-clause-counts g c =
+pub returns-in_err-said-in-Some-clause-counts : goal.returns-in_err-said-in-Some-clause-counts
+returns-in_err-said-in-Some-clause-counts g c =
     let came = subst (λ o. (o, c.next.new.self) ≡ first_of c.args.self.now.workload) c.in-Some.is c.in_ok-next.ensures.came in
     let counts = counts_on c.args.self.now.workload c.next.new.self c.in-Some.request c.call-reply.result c.args.self.now.calls c.args.self.now.refused
     came c.requires.counts in
     let count = c.refusals.ensures in
     omega (arith, counts, count)
 
-pub returns-in_ok-told-in-Some-clause-counts : goal.returns-in_ok-told-in-Some-clause-counts
-returns-in_ok-told-in-Some-clause-counts g c =
+pub returns-in_ok-said-in-Some-clause-counts : goal.returns-in_ok-said-in-Some-clause-counts
+returns-in_ok-said-in-Some-clause-counts g c =
     let came = subst (λ o. (o, c.next.new.self) ≡ first_of c.args.self.now.workload) c.in-Some.is c.in_ok-next.ensures.came in
     let counts = counts_on c.args.self.now.workload c.next.new.self c.in-Some.request c.call-reply.result c.args.self.now.calls c.args.self.now.refused
     came c.requires.counts in
@@ -45,8 +45,8 @@ returns-in-None-clause-ok g c =
     let came = subst (λ o. (o, c.next.new.self) ≡ first_of c.args.self.now.workload) c.in-None.is c.in_ok-next.ensures.came in
     made_none_left g.K.Keeper.TELLS _ c.args.self.now.workload c.next.new.self c.args.self.now.calls c.args.self.now.refused _ came
 
-pub returns-in_ok-told-in-Some-clause-ok : goal.returns-in_ok-told-in-Some-clause-ok
-returns-in_ok-told-in-Some-clause-ok g c =
+pub returns-in_ok-said-in-Some-clause-ok : goal.returns-in_ok-said-in-Some-clause-ok
+returns-in_ok-said-in-Some-clause-ok g c =
     let before = outside (g.K.Keeper.state c.args.keepers.now) (g.L.Link.shown c.args.link.now) in
     let after = outside (g.K.Keeper.state c.call-reply.new.keepers) (g.L.Link.shown c.call-reply.new.link) in
     let came = subst (λ o. (o, c.next.new.self) ≡ first_of c.args.self.now.workload) c.in-Some.is c.in_ok-next.ensures.came in
@@ -55,10 +55,10 @@ returns-in_ok-told-in-Some-clause-ok g c =
     (record { does = c.call-reply.ensures.does; later = c.call-reply.ensures.later }) came
     c.refusals.result c.refusals.ensures _ _
     (subst (λ written. Appends (g.S.Sink.taken c.args.output.now) written (summed_at c.args.self.now.calls c.args.self.now.refused c.in-Some.request
-    (reply_line (serving c.call-reply.new.self) c.call-reply.result))) (sym c.progress.ensures.taken) c.in_ok-told-in-Some.ensures.ok)
+    (reply_line (serving c.call-reply.new.self) c.call-reply.result))) (sym c.progress.ensures.taken) c.in_ok-said-in-Some.ensures.ok)
 
-pub returns-in_err-told-in-Some-clause-err : goal.returns-in_err-told-in-Some-clause-err
-returns-in_err-told-in-Some-clause-err g c =
+pub returns-in_err-said-in-Some-clause-err : goal.returns-in_err-said-in-Some-clause-err
+returns-in_err-said-in-Some-clause-err g c =
     let before = outside (g.K.Keeper.state c.args.keepers.now) (g.L.Link.shown c.args.link.now) in
     let after = outside (g.K.Keeper.state c.call-reply.new.keepers) (g.L.Link.shown c.call-reply.new.link) in
     let came = subst (λ o. (o, c.next.new.self) ≡ first_of c.args.self.now.workload) c.in-Some.is c.in_ok-next.ensures.came in
@@ -66,4 +66,4 @@ returns-in_err-told-in-Some-clause-err g c =
     c.next.new.self c.args.self.now.calls c.args.self.now.refused c.call-reply.result
     (record { does = c.call-reply.ensures.does; later = c.call-reply.ensures.later }) came
     _ _ (subst (λ written. AppendsPart (g.S.Sink.taken c.args.output.now) written (summed_at c.args.self.now.calls c.args.self.now.refused c.in-Some.request
-    (reply_line (serving c.call-reply.new.self) c.call-reply.result))) (sym c.progress.ensures.taken) c.in_err-told-in-Some.ensures.err))
+    (reply_line (serving c.call-reply.new.self) c.call-reply.result))) (sym c.progress.ensures.taken) c.in_err-said-in-Some.ensures.err))

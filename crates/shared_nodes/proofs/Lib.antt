@@ -1,0 +1,5 @@
+mod LeaderAsking
+mod LeaderMerges
+mod LeaderTurns
+pub mod Looking
+pub mod Turns

@@ -1,0 +1,7 @@
+mod Ended
+mod Kept
+mod KeptCommits
+mod KeptMerges
+mod Learnt
+mod Seen
+mod Streaming

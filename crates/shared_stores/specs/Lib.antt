@@ -1,0 +1,4 @@
+pub mod Asked
+pub mod Locked
+pub mod Making
+pub mod Owed

@@ -1,11 +1,10 @@
 -- What a leader gives is right for the read, and of its shard's log; and the leader stays right.
-use Rattle.std.proofs.Common.{◌≡◌, ℕ, Bool, true, false, List, [], ◌∷◌, Option, Some, IfOk, OnErr, Result, Ok, Err, refl, ap, sym, subst, ◌∙◌, inl, inr}
-use Rattle.std.specs.Prelude.{⊤, ◌==◌, ◌&&◌, if◌then◌else◌, nat_lt}
+use Rattle.std.proofs.Common.{◌≡◌, ℕ, Bool, true, false, [], ◌∷◌, Some, IfOk, OnErr, Result, Ok, Err, refl, sym, subst, ◌∙◌, inl, inr}
+use Rattle.std.specs.Prelude.{⊤, ◌==◌, if◌then◌else◌, nat_lt}
 use Rattle.std.proofs.lemmas.Bool.{eq-eqb}
 use Rattle.cache_items.specs.Node.{Node}
 use Rattle.core_model.proofs.Legal.{reads_are_legal}
 use Rattle.core_model.specs.Laws.{RightNodesStay}
-use Rattle.core_model.specs.Pens.{is_called, store_in}
 use Rattle.core_model.specs.Reads.{IsRightAnswer, LeaderAnswers, Wanted, asked_store, store_calls}
 use Rattle.leader_tier.proofs.LegalReads.{role_log}
 use Rattle.leader_tier.specs.LeaderReads.{GivesAnswer, IsLegalAt, asked_read, at_floor}
@@ -13,10 +12,8 @@ use Rattle.log_names.specs.Names.{IsOfLog, LogNames}
 use Rattle.node_name.specs.declared.NodeName.{NodeName}
 use Rattle.node_stages.specs.Stages.{LeaderDoes}
 use Rattle.shard_log.proofs.GrowthLemmas.{grows-self}
-use Rattle.shard_log.specs.View.{View}
 use Rattle.shard_tables.specs.ReadOuts.{read_note}
 use Rattle.shard_tables.specs.StoreView.{Store}
-use Rattle.shard_tables.specs.Stores.{note_of}
 use Rattle.shard_tables.specs.declared.leader_answer.LeaderAnswer.{LeaderAnswer}
 use Rattle.shard_tables.specs.declared.leader_answer.LeaderAnswer.TheVariants.{Filled, Past, Behind}
 use Rattle.shard_tables.specs.declared.read_out.ReadOut.{ReadOut}
@@ -28,7 +25,7 @@ use Rattle.tao_keeper.specs.KeeperState.{KeeperState}
 use Rattle.tao_schema.specs.Schema.{types_of}
 use Rattle.tao_schema.specs.declared.schema.Schema.{Schema}
 use Rattle.shared_nodes.specs.Nodes.{IsSharedNode}
-use Rattle.shared_nodes.proofs.LeaderTurns.{leader_note}
+use Rattle.shared_nodes.proofs.Turns.{note_of_turn}
 use Rattle.shared_stores.specs.Making.{Making}
 
 -- ---- the one store that is asked
@@ -72,7 +69,7 @@ module _ (m : Making) (log : LogNames) (name : NodeName) (read : Wanted) (store 
       → GivesAnswer (asked_read types old read.query read.floor) store given new before after → IsOfAnswer log (query_shard read.query) given
   answer_of types given is own (inl handed) =
       subst (IsOfAnswer log (query_shard read.query)) (sym handed.given_is)
-      (leader_note m log name old (query_shard read.query) is handed.fill.note handed.serves.1.note_is)
+      (note_of_turn m log name old (query_shard read.query) handed.fill.note is handed.serves.1.note_is)
   answer_of types given is own (inr reads) =
       subst (IsOfAnswer log (query_shard read.query)) (sym reads.given_is)
       (out_of log (query_shard read.query) read.floor reads.out

@@ -1,5 +1,5 @@
-mod LeaderAsking
-mod LeaderMerges
-mod LeaderTurns
+pub mod LeaderAsking
+pub mod LeaderMerges
+pub mod LeaderTurns
 pub mod Looking
 pub mod Turns

@@ -1,5 +1,5 @@
 //! The value of a leader's lock.
-ghost use Rattle.std.specs.Prelude.{◌≡◌, ◌≢◌, IfErr, IfOk, IfSome, IsTrue, OnErr, OnOk, Some, true};
+ghost use Rattle.std.specs.Prelude.{◌≡◌, ◌≢◌, ◌≤◌, ◌+◌, IfErr, IfOk, IsTrue, OnErr, OnOk, Some, if◌then◌else◌, is_some, length, slice_get, true};
 ghost use Rattle.core_model.specs.Asked.{lent_read, settings};
 ghost use Rattle.core_model.specs.Fleet.{named};
 ghost use Rattle.core_model.specs.Messages.{IsRightMessage};
@@ -13,14 +13,16 @@ ghost use Rattle.log_names.specs.Names.{IsOfLog};
 ghost use Rattle.node_stages.specs.Caches.{DeliversAs, leader_node, leader_refills};
 ghost use Rattle.node_stages.specs.Relays.{RelaysTo};
 ghost use Rattle.node_stages.specs.Stages.{LeaderDoes};
-ghost use Rattle.shard_log.specs.View.{Grows, as_note};
+ghost use Rattle.shard_log.specs.View.{Begins, Grows, as_note, most_entries};
 ghost use Rattle.shard_tables.specs.Refusals.{IsOfReads};
+ghost use Rattle.shard_tables.specs.Slaves.{HasMet};
 ghost use Rattle.shard_tables.specs.WriteDone.{MergeDone, StoreGains, WriteDone, asked_at, asked_merge_at};
 ghost use Rattle.shard_tables.specs.Written.{LiesOn, StandsIn, WriteAnswers};
 ghost use Rattle.shard_tables.specs.declared.store.StoreRole.TheVariants.{Master};
 ghost use Rattle.shared_nodes.specs.Merges.{wrote_in};
 ghost use Rattle.shared_nodes.specs.Nodes.{IsSharedNode};
 ghost use Rattle.shared_stores.specs.Asked.{asked_of_seen, lent_owed};
+ghost use Rattle.shared_stores.specs.Locked.{entries_seen};
 ghost use Rattle.shared_stores.specs.Owed.{IsDoneIn, IsOwedIn};
 ghost use Rattle.tao_base.specs.Queries.{query_shard};
 ghost use Rattle.tao_base.specs.Writes.{ChangesType, write_shard};
@@ -36,11 +38,11 @@ use node_stages::{deliver_to, relay_of};
 use shard_log::Note;
 use shard_tables::{LeaderAnswer, StoreRefusal, Wrote};
 use shared_stores::{
-    CountedNote, OwedJob, SharedStore, Sharing, ask_at, commit_at, merge_at, see_each_other,
-    see_gained,
+    CountedNote, OwedJob, SharedStore, Sharing, Spares, ask_at, commit_at, merge_at,
+    see_each_other, see_gained,
 };
 use std::marker::{Model, PhantomData};
-use tao_base::Entry;
+use tao_base::{Entry, OutOfMemory};
 use tao_keeper::Keeper;
 use tao_schema::Schema;
 
@@ -70,6 +72,72 @@ impl<J: Sharing> Model for SharedLeader<J> {
 pub struct SharedMerge {
     pub wrote: Wrote,
     pub done: CountedNote,
+}
+
+/// The notes of two masters' logs see all of them, and each master sees the other's whole log. Answers two notes of what the first one has then seen.
+/// Neither log changes, and no keeper is called.
+fn meet_both<K: Keeper, J: Sharing>(
+    schema: &Schema,
+    near: &mut SharedStore<K, J>,
+    far: &mut SharedStore<K, J>,
+    here: &mut Note,
+    there: &mut Note,
+) -> Result<Spares, OutOfMemory>
+    requires schema { schema.now ≡ J.making.settings.schema }
+    requires masters { (near.old.store.role ≡ Master) × (far.old.store.role ≡ Master) }
+    requires apart { near.old.store.name.shard ≢ far.old.store.name.shard }
+    requires here { IsOfLog J.log near.old.store.name.shard here.old }
+    requires there { IsOfLog J.log far.old.store.name.shard there.old }
+    ensures here { Grows here.old here.new }
+    ensures there { Grows there.old there.new }
+    ensures met { OnOk result (HasMet near.old.store here.old here.new × HasMet far.old.store there.old there.new) }
+    ensures back { OnOk result (entries_seen far.new.notes.items near.old.store.name.shard ≡ near.old.store.view.entries) }
+    ensures own { IfOk result (λ spares. slice_get near.new.notes.items far.old.store.name.shard ≡ Some spares.own) }
+    ensures whole { IfOk result (λ spares. spares.own.entries ≡ far.old.store.view.entries) }
+    ensures given { IfOk result (λ spares. spares.given ≡ spares.own) }
+    ensures few { IfOk result (λ spares. length spares.own.entries ≤ most_entries) }
+    ensures stores { (near.new.store ≡ near.old.store) × (far.new.store ≡ far.old.store) }
+    ensures keepers { (near.new.keeper ≡ near.old.keeper) × (far.new.keeper ≡ far.old.keeper) }
+{
+    near.meet(here)?;
+    far.meet(there)?;
+    see_each_other(schema, near, far)
+}
+
+/// What a merge answers: the master of the job's entry first sees what the other one gained by it.
+fn see_merged<K: Keeper, J: Sharing>(
+    schema: &Schema,
+    near: &mut SharedStore<K, J>,
+    far: &mut SharedStore<K, J>,
+    spares: Spares,
+    wrote: Result<Wrote, StoreRefusal>,
+) -> Result<SharedMerge, StoreRefusal>
+    requires schema { schema.now ≡ J.making.settings.schema }
+    requires masters { (near.old.store.role ≡ Master) × (far.old.store.role ≡ Master) }
+    requires apart { near.old.store.name.shard ≢ far.old.store.name.shard }
+    requires own { slice_get near.old.notes.items far.old.store.name.shard ≡ Some spares.own }
+    requires given { spares.given ≡ spares.own }
+    requires few { length spares.own.entries ≤ most_entries }
+    requires begins { Begins spares.own.entries far.old.store.view.entries }
+    requires gained { IfOk wrote (λ w. length far.old.store.view.entries ≡ length spares.own.entries + (if is_some w.entry then 1 else 0)) }
+    requires note { IfOk wrote (λ w. w.note ≡ as_note far.old.store.view) }
+    requires back { entries_seen far.old.notes.items near.old.store.name.shard ≡ near.old.store.view.entries }
+    ensures wrote { wrote_in result ≡ wrote }
+    ensures note { IfOk result (λ merge. merge.wrote.note ≡ merge.done) }
+    ensures near { (near.new.store ≡ near.old.store) × (near.new.keeper ≡ near.old.keeper) }
+    ensures far { (far.new.store ≡ far.old.store) × (far.new.keeper ≡ far.old.keeper) }
+{
+    match wrote {
+        Ok(wrote) => {
+            let gained = wrote.entry.is_some();
+            let done = see_gained(schema, near, far, spares, gained);
+            Ok(SharedMerge { wrote, done })
+        }
+        Err(refusal) => {
+            drop(spares);
+            Err(refusal)
+        }
+    }
 }
 
 impl<J: Sharing> SharedLeader<J> {
@@ -198,15 +266,11 @@ impl<J: Sharing> SharedLeader<J> {
         ensures near { (near.new.store ≡ near.old.store) × (near.new.keeper ≡ near.old.keeper) }
     {
         leaders_are_true(&self.leader);
-        near.meet(here)?;
-        far.meet(there)?;
         let config = around.config;
-        let spares = see_each_other(&config.schema, near, far)?;
+        let spares = meet_both(&config.schema, near, far, here, there)?;
         named_nodes_stay();
-        let wrote = merge_at(around, &mut self.leader, far, owed)?;
-        let gained = wrote.entry.is_some();
-        let done = see_gained(&config.schema, near, far, spares, gained);
-        Ok(SharedMerge { wrote, done })
+        let wrote = merge_at(around, &mut self.leader, far, owed);
+        see_merged(&config.schema, near, far, spares, wrote)
     }
 
     /// The stage `relay`: the leader of a slave region takes the changes of an entry that stands in the note, and marks nothing.

@@ -12,7 +12,7 @@ ask_at-requires g c =
     let own : IsOfLog g.J.Logs.log shard c.args.store.now.store.view =
     subst (λ n. IsOfLog g.J.Logs.log n c.args.store.now.store.view) c.requires.store c.args.store.now.kept.log_is in
     record {
-      log = leader_log g.J.Sharing.making g.J.Logs.log c.self.inside.name c.self.inside.leader c.args.self.now shard c.args.store.now.store.view.log
+      log = leader_log g.J.Sharing.making g.J.Logs.log c.self.inside.name c.self.inside.leader c.args.self.now shard c.args.store.now.store.view
           c.self.view_is c.self.invariant c.requires.serves.here c.requires.serves.serves own;
     }
 

@@ -10,7 +10,7 @@ commit_at-requires-clause-leader g c =
     let shard = c.args.store.now.store.name.shard in
     let serving : IsLeaderFor g.J.Sharing.making.settings shard c.args.self.now.name =
     subst (λ n. IsLeaderFor g.J.Sharing.making.settings n c.args.self.now.name) c.requires.here c.requires.serves in
-    leader_log g.J.Sharing.making g.J.Logs.log c.self.inside.name c.self.inside.leader c.args.self.now shard c.args.store.now.store.view.log c.self.view_is
+    leader_log g.J.Sharing.making g.J.Logs.log c.self.inside.name c.self.inside.leader c.args.self.now shard c.args.store.now.store.view c.self.view_is
     c.self.invariant serving.here serving.serves c.args.store.now.kept.log_is
 
 pub invariant_of-self : goal.invariant_of-self

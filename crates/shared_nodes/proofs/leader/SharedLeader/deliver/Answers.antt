@@ -9,7 +9,7 @@ use Rattle.shared_nodes.proofs.leader.SharedLeader.deliver.Goals as goal
 pub deliver_to-requires : goal.deliver_to-requires
 deliver_to-requires g c =
     let message = c.requires.message in
-    leader_log g.J.Sharing.making g.J.Logs.log c.self.inside.name c.self.inside.leader c.args.self.now c.args.message.shard c.args.message.note.log
+    leader_log g.J.Sharing.making g.J.Logs.log c.self.inside.name c.self.inside.leader c.args.self.now c.args.message.shard c.args.message.note
     c.self.view_is c.self.invariant message.here message.serves message.seen
 
 pub invariant_of-self : goal.invariant_of-self

@@ -8,7 +8,7 @@ use Rattle.shared_nodes.proofs.leader.SharedLeader.relay.Goals as goal
 
 pub relay_of-requires-clause-log : goal.relay_of-requires-clause-log
 relay_of-requires-clause-log g c =
-    leader_log g.J.Sharing.making g.J.Logs.log c.self.inside.name c.self.inside.leader c.args.self.now c.args.shard c.args.note.log c.self.view_is
+    leader_log g.J.Sharing.making g.J.Logs.log c.self.inside.name c.self.inside.leader c.args.self.now c.args.shard c.args.note c.self.view_is
     c.self.invariant c.requires.serves.here c.requires.serves.serves c.requires.log
 
 pub invariant_of-self : goal.invariant_of-self

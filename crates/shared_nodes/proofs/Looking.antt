@@ -1,11 +1,13 @@
 -- What a follower answers under its lock is legal in what was seen, and it stays one of its cluster.
-use Rattle.std.proofs.Common.{◌≡◌, ℕ, ◌≤◌, Bool, true, false, Option, Some, None, IfOk, OnErr, Result, Ok, Err, refl, sym, subst, inl, inr, ◌⊎◌, arith}
+use Rattle.std.proofs.Common.{◌≡◌, ◌≢◌, ℕ, ◌≤◌, Bool, true, false, Option, Some, None, IfOk, IfSome, OnErr, Result, Ok, Err, refl, sym, subst, inl, inr, ◌⊎◌, arith}
 use Rattle.std.specs.Option.{option_map}
 use Rattle.std.specs.Prelude.{◌&&◌, if◌then◌else◌, nat_le, IsSomeAnd}
 use Rattle.std.proofs.lemmas.Bool.{leb-true}
+use Rattle.cache_items.specs.Kept.{ask_at}
 use Rattle.cache_items.specs.Look.{look_of}
 use Rattle.cache_items.specs.Node.{Node, item_at}
 use Rattle.cache_items.specs.declared.item.Item.{Item}
+use Rattle.cache_items.specs.declared.look.Kept.TheVariants.{Lost}
 use Rattle.cache_items.specs.declared.look.Look.{Look}
 use Rattle.cache_items.specs.declared.look.Look.TheVariants.{Hit, Miss}
 use Rattle.cache_node.proofs.LegalAnswers.{answers_are_legal}
@@ -32,8 +34,9 @@ use Rattle.tao_base.specs.declared.query.Answer.{Answer}
 use Rattle.tao_base.specs.declared.query.Query.{Query}
 use Rattle.tao_schema.specs.Schema.{types_of}
 use Rattle.tao_schema.specs.declared.schema.Schema.{Schema}
+use Rattle.shared_nodes.proofs.Reasons.{reason_seen}
 use Rattle.shared_nodes.proofs.Turns.{note_of_turn, served_told}
-use Rattle.shared_nodes.specs.Nodes.{IsLegalHit, IsSharedNode}
+use Rattle.shared_nodes.specs.Nodes.{IsKeptAsSeen, IsLegalHit, IsSharedNode}
 use Rattle.shared_nodes.specs.declared.follower.SharedKept.{SharedKept}
 use Rattle.shared_nodes.specs.declared.follower.SharedLook.{SharedLook}
 
@@ -117,14 +120,16 @@ module _ (m : Making) (log : LogNames) (name : NodeName) (stays : RightNodesStay
     pub kept : IsSharedNode m log name new.node
     pub note : IfOk r (λ kept. IsOfLog log (query_shard read.query) kept.note)
     pub legal : IfOk r (λ kept. IsLegalIn (types_of m.settings.schema) fill.note read.query read.floor kept.answer fill.version)
+    pub why : IfOk r (λ kept. IsKeptAsSeen kept.note (query_key read.query) kept.kept)
 
   pub kept_at_shared : (schema : Schema) (ask : Option ℕ) (fill : SealedItem) (old new : FollowerState) (r : Result SharedKept OutOfMemory)
       → schema ≡ m.settings.schema → IsSharedNode m log name old.node → IsRightFill (types_of m.settings.schema) (IsOfLog log) read fill
       → IfOk r (λ kept. FollowerDoes (KeepsFill (types_of schema) read.query (taken_fill ask fill kept.answer kept.kept)) old new)
       → OnErr r ((new ≡ old) ⊎ FollowerDoes (EndsAsk ask) old new)
       → IfOk r (λ kept. view_at (query_shard read.query) old.node.served ≡ Some kept.note)
-      → IfOk r (λ kept. ViewAnswers (types_of schema) fill.note read.query kept.answer fill.version) → KeptAt fill new r
-  kept_at_shared schema ask fill old new (Ok kept) own is given does err note answers =
+      → IfOk r (λ kept. ViewAnswers (types_of schema) fill.note read.query kept.answer fill.version) → IfOk r (λ kept. kept.kept ≢ Lost)
+      → IfOk r (λ _. IfSome ask (λ number. IsSomeAnd (ask_at number old.node.asks) (λ a. a.key ≡ query_key read.query))) → KeptAt fill new r
+  kept_at_shared schema ask fill old new (Ok kept) own is given does err note answers unlost on =
       let there : FollowerDoes (KeepsFill (types_of m.settings.schema) read.query (taken_fill ask fill kept.answer kept.kept)) old new =
       subst (λ (x : Schema). FollowerDoes (KeepsFill (types_of x) read.query (taken_fill ask fill kept.answer kept.kept)) old new) own does in
       record {
@@ -132,14 +137,17 @@ module _ (m : Making) (log : LogNames) (name : NodeName) (stays : RightNodesStay
         note = note_of_turn m log name old.node (query_shard read.query) kept.note is note;
         legal = exact_legal (types_of m.settings.schema) fill.note read kept.answer fill.version
             (subst (λ (x : Schema). ViewAnswers (types_of x) fill.note read.query kept.answer fill.version) own answers) given.reaches;
+        why = reason_seen (query_key read.query) old.node ask kept.note fill.version fill.as_of kept.kept is.truth note on unlost there.does.kept_is;
       }
-  kept_at_shared schema ask fill old new (Err e) own is given does (inl same) note answers = record {
+  kept_at_shared schema ask fill old new (Err e) own is given does (inl same) note answers unlost on = record {
     kept = subst (λ (f : FollowerState). IsSharedNode m log name f.node) (sym same) is;
     note = tt;
     legal = tt;
+    why = tt;
   }
-  kept_at_shared schema ask fill old new (Err e) own is given does (inr ends) note answers = record {
+  kept_at_shared schema ask fill old new (Err e) own is given does (inr ends) note answers unlost on = record {
     kept = stays.ends ask old new ends.does ends.truth is;
     note = tt;
     legal = tt;
+    why = tt;
   }

@@ -16,7 +16,7 @@ ghost use Rattle.sealed_item.specs.Decided.{content_decides};
 ghost use Rattle.served_shards.specs.Served.{log_at, served_at, view_at};
 ghost use Rattle.shard_log.specs.GrowthLaws.{IsLegalIn};
 ghost use Rattle.shard_tables.specs.Written.{LiesOn, StandsIn};
-ghost use Rattle.shared_nodes.specs.Nodes.{IsLegalHit, IsSharedNode};
+ghost use Rattle.shared_nodes.specs.Nodes.{IsKeptAsSeen, IsLegalHit, IsSharedNode};
 ghost use Rattle.tao_base.specs.Queries.{query_key, query_shard};
 ghost use Rattle.tao_schema.specs.Schema.{types_of};
 
@@ -126,6 +126,8 @@ fn keep_with_note(
         FollowerDoes (KeepsFill (types_of schema.now) query.now (taken_fill ask fill kept.answer kept.kept)) follower.old follower.new) }
     ensures err { OnErr result ((follower.new ≡ follower.old) ⊎ FollowerDoes (EndsAsk ask) follower.old follower.new) }
     ensures open { IfOk result (λ kept. kept.kept ≢ Lost) }
+    ensures on { IfOk result (λ _.
+        IfSome ask (λ number. IsSomeAnd (ask_at number follower.old.node.asks) (λ a. a.key ≡ query_key query.now))) }
     ensures note { IfOk result (λ kept. view_at (query_shard query.now) follower.old.node.served ≡ Some kept.note) }
     ensures legal { IfOk result (λ kept. ViewAnswers (types_of schema.now) fill.note query.now kept.answer fill.version) }
 {
@@ -201,7 +203,7 @@ impl<J: Sharing> SharedFollower<J> {
         ensures does { IfOk result (λ kept. FollowerDoes
             (KeepsFill (types_of J.making.settings.schema) read.now.query.now (taken_fill ask fill kept.answer kept.kept)) self.old.node self.new.node) }
         ensures err { OnErr result ((self.new ≡ self.old) ⊎ FollowerDoes (EndsAsk ask) self.old.node self.new.node) }
-        ensures open { IfOk result (λ kept. kept.kept ≢ Lost) }
+        ensures why { IfOk result (λ kept. IsKeptAsSeen kept.note (query_key read.now.query.now) kept.kept) }
         ensures note { IfOk result (λ kept. IsOfLog J.log (query_shard read.now.query.now) kept.note) }
         ensures legal { IfOk result (λ kept.
             IsLegalIn (types_of J.making.settings.schema) fill.note read.now.query.now read.now.floor kept.answer fill.version) }

@@ -1,7 +1,8 @@
 //! The value of a leader's lock.
-ghost use Rattle.std.specs.Prelude.{◌≡◌, ◌≢◌, ◌≤◌, ◌+◌, IfErr, IfOk, IsTrue, OnErr, OnOk, Some, if◌then◌else◌, is_some, length, slice_get, true};
+ghost use Rattle.std.specs.Prelude.{◌≡◌, ◌≢◌, ◌≤◌, ◌+◌, IfErr, IfOk, IfSome, IsTrue, OnErr, OnOk, Some, if◌then◌else◌, is_some, length, slice_get, true};
 ghost use Rattle.core_model.specs.Asked.{lent_read, settings};
 ghost use Rattle.core_model.specs.Fleet.{named};
+ghost use Rattle.core_model.specs.Jobs.{far_shard};
 ghost use Rattle.core_model.specs.Messages.{IsRightMessage};
 ghost use Rattle.core_model.specs.Reads.{IsRightAnswer};
 ghost use Rattle.core_model.specs.Serving.{IsLeaderFor};
@@ -23,7 +24,7 @@ ghost use Rattle.shared_nodes.specs.Merges.{wrote_in};
 ghost use Rattle.shared_nodes.specs.Nodes.{IsSharedNode};
 ghost use Rattle.shared_stores.specs.Asked.{asked_of_seen, lent_owed};
 ghost use Rattle.shared_stores.specs.Locked.{entries_seen};
-ghost use Rattle.shared_stores.specs.Owed.{IsDoneIn, IsOwedIn};
+ghost use Rattle.shared_stores.specs.Owed.{IsDoneIn, IsOwed, IsOwedIn, owed_by};
 ghost use Rattle.tao_base.specs.Queries.{query_shard};
 ghost use Rattle.tao_base.specs.Writes.{ChangesType, write_shard};
 ghost use Rattle.tao_keeper.specs.KeeperState.{CallsKeeper, KeepsTables};
@@ -191,6 +192,7 @@ impl<J: Sharing> SharedLeader<J> {
 
     /// The stage `commit`, with the lock of the shard's master store held too: the write of a client is made at the store, and the leader's items take
     /// what was written. The caller's note of the shard's log first sees all of it, and the answer is one that the write has on what the note has then seen.
+    /// A job that is answered is owed, where its records lie on another shard.
     ///
     /// Refused as a store's write is.
     pub fn commit<K: Keeper>(
@@ -213,6 +215,8 @@ impl<J: Sharing> SharedLeader<J> {
         ensures answer { WhereTold K.TELLS (WriteAnswers (asked_of_seen J.making (write_shard call.now.write.now) note.new.entries call.now) result) }
         ensures grows { Grows note.old note.new }
         ensures after { IfOk result (λ wrote. Grows note.new wrote.note) }
+        ensures owes { IfOk result (λ wrote. IfSome wrote.job (λ job. IfSome wrote.entry (λ e. far_shard job ≢ write_shard call.now.write.now
+            → IsOwed K.TELLS (types_of J.making.settings.schema) (owed_by (write_shard call.now.write.now) job e)))) }
 
         // What becomes of the leader, the store and its keeper.
         ensures does { LeaderDoes (TakesWritten (types_of J.making.settings.schema) (write_shard call.now.write.now) (taken_entry true result)
@@ -246,7 +250,7 @@ impl<J: Sharing> SharedLeader<J> {
         requires near { owed.now.from ≡ near.old.store.name.shard }
         requires far { owed.now.to ≡ far.old.store.name.shard }
         requires masters { (near.old.store.role ≡ Master) × (far.old.store.role ≡ Master) }
-        requires owed { IsOwedIn J.making J.log here.old (lent_owed owed.now) }
+        requires owed { IsOwedIn K.TELLS J.making J.log here.old (lent_owed owed.now) }
         requires log { IsOfLog J.log owed.now.to there.old }
         ensures name { self.new.name ≡ self.old.name }
 

@@ -53,15 +53,15 @@ keeps_with m l new to is k = record {
 }
 
 -- the job of an entry of the store's own log ends, all of whose records a note has seen, and the store's own note too
-pub record EndsSeen (m : Making) (log : LogNames) (l : Locked) (here there : View) (owed : Owed) : Type 0 where
+pub record EndsSeen (tells : Bool) (m : Making) (log : LogNames) (l : Locked) (here there : View) (owed : Owed) : Type 0 where
   pub from_is : owed.from ≡ shard_in l
-  pub owed_in : IsOwedIn m log here owed
+  pub owed_in : IsOwedIn tells m log here owed
   pub begins : Begins here.entries l.store.view.entries
   pub done : IsDoneIn m log there owed
   pub seen : IsSomeAnd (slice_get l.notes owed.to) (Grows there)
 
 module _ (tells : Bool) (m : Making) (log : LogNames) (law : LockedEndsKeep) (l : Locked) (master : l.store.role ≡ Master)
-    (was : IsSharedStore tells m log l) (here there : View) (owed : Owed) (h : EndsSeen m log l here there owed) where
+    (was : IsSharedStore tells m log l) (here there : View) (owed : Owed) (h : EndsSeen tells m log l here there owed) where
   abbrev ended : Table
   ended = after_end (table_in l) owed.job.position
 
@@ -102,12 +102,12 @@ module _ (tells : Bool) (m : Making) (log : LogNames) (law : LockedEndsKeep) (l 
 
     ends : EndsOwn (types_of m.settings.schema) (known m l) (known m (locked l.store (λ s. ended) l.notes)) source
     ends = record {
-      sees = record { epoch_is = refl; stands = stands; there = h.owed_in.owes.there; away = away };
+      sees = record { epoch_is = refl; stands = stands; there = (h.owed_in.owes.owes told).there; away = away };
       done = done;
       log = refl;
       epoch = refl;
       begun = refl;
-      ends = subst (λ (p : ℕ). JobTurns (known m l) (known m (locked l.store (λ s. ended) l.notes)) p None) h.owed_in.owes.position_is turns;
+      ends = subst (λ (p : ℕ). JobTurns (known m l) (known m (locked l.store (λ s. ended) l.notes)) p None) (h.owed_in.owes.owes told).position_is turns;
     }
 
     keeps_ended : KeepsMaster m (locked l.store (λ s. ended) l.notes)

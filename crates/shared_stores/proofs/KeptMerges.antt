@@ -42,7 +42,7 @@ first_number position = omega arith
 -- a job that is owed to the master's shard, and whose entry was seen
 module _ (tells : Bool) (m : Making) (log : LogNames) (store : Store) (before : KeeperState) (notes : List View)
     (is : IsSharedStore tells m log (locked store before.told notes)) (master : store.role ≡ Master) (owed : Owed) (here : owed.to ≡ store.name.shard)
-    (match : InversesMatch (types_of m.settings.schema)) (law : LockedMergesKeep) (owes : IsOwed (types_of m.settings.schema) owed)
+    (match : InversesMatch (types_of m.settings.schema)) (law : LockedMergesKeep) (owes : IsOwed tells (types_of m.settings.schema) owed)
     (seen : WhereTold tells (entry_at (entries_seen notes owed.from) owed.entry.position ≡ Some owed.entry)) where
   abbrev types : EdgeTypes
   types = types_of m.settings.schema
@@ -61,25 +61,29 @@ module _ (tells : Bool) (m : Making) (log : LogNames) (store : Store) (before : 
   sees told = record {
     epoch_is = refl;
     stands = subst (λ l. entry_at l owed.entry.position ≡ Some owed.entry) (sym (other_log m store notes old owed.from away)) (seen told);
-    there = subst (λ shard. All (λ u. shard_of u.0 ≡ shard) (job_of types owed.entry)) here owes.there;
+    there = subst (λ shard. All (λ u. shard_of u.0 ≡ shard) (job_of types owed.entry)) here (owes.owes told).there;
     away = away;
   }
 
   -- what is so of the entry is so of the job
-  of_job : (P : ℕ → List EdgeUpdate → Type 0) → P (number_in 0 owed.entry.position) (job_of types owed.entry) → P owed.job.position owed.job.edges
-  of_job P p =
-      subst (P owed.job.position) (sym owes.records_are)
-      (subst (λ n. P n (job_of types owed.entry)) (first_number owed.entry.position ∙ sym owes.position_is) p)
+  of_job : tells ≡ true → (P : ℕ → List EdgeUpdate → Type 0) → P (number_in 0 owed.entry.position) (job_of types owed.entry)
+      → P owed.job.position owed.job.edges
+  of_job told P p =
+      let its = owes.owes told in
+      subst (P owed.job.position) (sym its.records_are)
+      (subst (λ n. P n (job_of types owed.entry)) (first_number owed.entry.position ∙ sym its.position_is) p)
 
-  of_entry : (P : ℕ → List EdgeUpdate → Type 0) → P owed.job.position owed.job.edges → P (number_in 0 owed.entry.position) (job_of types owed.entry)
-  of_entry P p =
-      subst (λ n. P n (job_of types owed.entry)) (owes.position_is ∙ sym (first_number owed.entry.position))
-      (subst (P owed.job.position) owes.records_are p)
+  of_entry : tells ≡ true → (P : ℕ → List EdgeUpdate → Type 0) → P owed.job.position owed.job.edges
+      → P (number_in 0 owed.entry.position) (job_of types owed.entry)
+  of_entry told P p =
+      let its = owes.owes told in
+      subst (λ n. P n (job_of types owed.entry)) (its.position_is ∙ sym (first_number owed.entry.position))
+      (subst (P owed.job.position) its.records_are p)
 
   far : tells ≡ true → IsFarEntry types owed.from store.name.shard owed.entry
   far told =
       let was = (is.master told master).kept in
-      let one = first_record (job_of types owed.entry) (of_entry (λ n us. 0 < length us) owes.given.some) in
+      let one = first_record (job_of types owed.entry) (of_entry told (λ n us. 0 < length us) owes.given.some) in
       let sound = was.sound owed.from in
       let stands = (sees told).stands in
       let place = at_place types owed.from ((known m (locked store old notes)).log owed.from) owed.entry.position owed.entry sound stands in
@@ -98,7 +102,7 @@ module _ (tells : Bool) (m : Making) (log : LogNames) (store : Store) (before : 
   pub may_merge : WhereTold tells (MayBeMerged store.name.shard (old store.name).log owed.from owed.job.position owed.job.edges)
   may_merge told =
       subst (λ l. MayBeMerged store.name.shard l owed.from owed.job.position owed.job.edges) (own_log m store notes old)
-      (of_job (MayBeMerged store.name.shard ((known m (locked store old notes)).log store.name.shard) owed.from)
+      (of_job told (MayBeMerged store.name.shard ((known m (locked store old notes)).log store.name.shard) owed.from)
       (jobs_may_be_merged.may types ((known m (locked store old notes)).log store.name.shard) source (mergeable told)))
 
   module _ (new : Tables) where
@@ -107,7 +111,7 @@ module _ (tells : Bool) (m : Making) (log : LogNames) (store : Store) (before : 
     merged_keeps e made told gains =
         law.keep types (known m (locked store old notes)) (known m (locked store new notes)) source e match (is.master told master).kept (sees told)
         (subst (λ l. merge_of l owed.from (number_in 0 owed.entry.position) (job_of types owed.entry) ≡ Some e) (sym (own_log m store notes old))
-        (of_entry (λ n us. merge_of (old store.name).log owed.from n us ≡ Some e) made))
+        (of_entry told (λ n us. merge_of (old store.name).log owed.from n us ≡ Some e) made))
         (gains_own m store notes old new e None gains) (ap (λ t. t.jobs) gains.here)
 
     keeps : (entry : Option Entry) → entry ≡ merge_of (old store.name).log owed.from owed.job.position owed.job.edges → tells ≡ true
@@ -140,6 +144,6 @@ module _ (tells : Bool) (m : Making) (log : LogNames) (store : Store) (before : 
           let log_is : (later.told store.name).log ≡ wrote.note.entries =
           ap (λ x. (later.told x.name).log) (sym made.log) ∙ sym (has_all tells later.told after role made.keeper told) ∙ ap (λ v. v.entries) (sym made.note) in
           subst (λ l. All (HasStamp l) (job_of types owed.entry)) log_is
-          (subst (All (HasStamp (later.told store.name).log)) owes.records_are (done.merged told)));
+          (subst (All (HasStamp (later.told store.name).log)) (owes.owes told).records_are (done.merged told)));
     }
     all_merged (Err refusal) done made = tt

@@ -3,5 +3,6 @@ mod Kept
 mod KeptCommits
 mod KeptMerges
 mod Learnt
+mod OwedWrites
 mod Seen
 mod Streaming

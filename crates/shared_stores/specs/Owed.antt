@@ -1,5 +1,6 @@
 -- A job between two shards, as it is known without the locks of their stores: by notes of their logs.
-use Rattle.std.specs.Prelude.{ℕ, ◌≡◌, ◌≢◌, All}
+use Rattle.std.specs.Prelude.{ℕ, ◌≡◌, ◌≢◌, All, Bool}
+use Rattle.core_model.specs.Jobs.{far_shard}
 use Rattle.graph_model.specs.Told.{WhereTold}
 use Rattle.log_names.specs.Names.{IsOfLog, LogNames}
 use Rattle.shard_log.specs.View.{View}
@@ -20,17 +21,25 @@ pub record Owed : Type 0 where
   pub entry : Entry
   pub job : Job
 
+-- what an entry of a shard owes by its job to the shard on which the job's records lie
+abbrev pub owed_by : ℕ → Job → Entry → Owed
+owed_by from job entry = record { from = from; to = far_shard job; entry = entry; job = job }
+
 -- the job is that of the entry, and its records lie on the other shard
-pub record IsOwed (types : EdgeTypes) (owed : Owed) : Type 0 where
-  pub given : IsGivenJob owed.job
+pub record OwesItsJob (types : EdgeTypes) (owed : Owed) : Type 0 where
   pub position_is : owed.job.position ≡ owed.entry.position
   pub records_are : owed.job.edges ≡ job_of types owed.entry
   pub there : All (λ u. shard_of u.0 ≡ owed.to) (job_of types owed.entry)
+
+-- a keeper gave the job, which is owed to another shard; where the tables are told, it is that of the entry, and its records lie on that shard
+pub record IsOwed (tells : Bool) (types : EdgeTypes) (owed : Owed) : Type 0 where
+  pub given : IsGivenJob owed.job
   pub away : owed.from ≢ owed.to
+  pub owes : WhereTold tells (OwesItsJob types owed)
 
 -- the entry that owes stands in what was seen of its shard's log
-pub record IsOwedIn (m : Making) (log : LogNames) (note : View) (owed : Owed) : Type 0 where
-  pub owes : IsOwed (types_of m.settings.schema) owed
+pub record IsOwedIn (tells : Bool) (m : Making) (log : LogNames) (note : View) (owed : Owed) : Type 0 where
+  pub owes : IsOwed tells (types_of m.settings.schema) owed
   pub log_is : IsOfLog log owed.from note
   pub stands : StandsIn note owed.entry
 

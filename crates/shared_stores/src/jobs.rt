@@ -48,7 +48,7 @@ impl<K: Keeper, J: Sharing> SharedStore<K, J> {
     ) -> Result<(), StoreRefusal>
         requires shard { owed.now.from ≡ self.old.store.name.shard }
         requires master { self.old.store.role ≡ Master }
-        requires owed { IsOwedIn J.making J.log here.old (lent_owed owed.now) }
+        requires owed { IsOwedIn K.TELLS J.making J.log here.old (lent_owed owed.now) }
         requires done { IsDoneIn J.making J.log there (lent_owed owed.now) }
         ensures ends { WhereTold K.TELLS (Changes result (K.state self.old.keeper).told (K.state self.new.keeper).told self.old.store.name
             (after_end ((K.state self.old.keeper).told self.old.store.name) owed.now.job.now.position)) }

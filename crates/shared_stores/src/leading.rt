@@ -1,6 +1,7 @@
 //! The stages at a leader and at the store of its lock's value, while that lock is held too.
-ghost use Rattle.std.specs.Prelude.{◌≡◌, IfErr, IfOk, IsTrue, OnErr, Some, true};
+ghost use Rattle.std.specs.Prelude.{◌≡◌, ◌≢◌, IfErr, IfOk, IfSome, IsTrue, OnErr, Some, true};
 ghost use Rattle.core_model.specs.Asked.{settings};
+ghost use Rattle.core_model.specs.Jobs.{far_shard};
 ghost use Rattle.graph_model.specs.Log.{entry_at};
 ghost use Rattle.graph_model.specs.Soundness.{is_client};
 ghost use Rattle.graph_model.specs.Told.{WhereTold};
@@ -16,7 +17,7 @@ ghost use Rattle.shard_tables.specs.Written.{WriteAnswers};
 ghost use Rattle.shard_tables.specs.declared.store.StoreRole.TheVariants.{Master};
 ghost use Rattle.shared_stores.specs.Asked.{asked_of_seen, lent_owed};
 ghost use Rattle.shared_stores.specs.Locked.{entries_seen};
-ghost use Rattle.shared_stores.specs.Owed.{IsDoneIn, IsOwed};
+ghost use Rattle.shared_stores.specs.Owed.{IsDoneIn, IsOwed, owed_by};
 ghost use Rattle.tao_base.specs.Queries.{query_shard};
 ghost use Rattle.tao_base.specs.Writes.{ChangesType, write_shard};
 ghost use Rattle.tao_keeper.specs.KeeperState.{CallsKeeper, KeepsTables};
@@ -56,7 +57,7 @@ pub fn ask_at<K: Keeper, J: Sharing>(
 }
 
 /// The stage `commit`: makes the write at the shard's preferred leader and the store. The caller's note of the shard's log first sees all of it, and
-/// the answer is one that the write has on what the note has then seen.
+/// the answer is one that the write has on what the note has then seen. A job that is answered is owed, where its records lie on another shard.
 ///
 /// Refused as a store's write is. Costs what a store's write does.
 pub fn commit_at<K: Keeper, J: Sharing>(
@@ -78,6 +79,8 @@ pub fn commit_at<K: Keeper, J: Sharing>(
     ensures answer { WhereTold K.TELLS (WriteAnswers (asked_of_seen J.making store.old.store.name.shard note.new.entries call.now) result) }
     ensures grows { Grows note.old note.new }
     ensures after { IfOk result (λ wrote. Grows note.new wrote.note) }
+    ensures owes { IfOk result (λ wrote. IfSome wrote.job (λ job. IfSome wrote.entry (λ e. far_shard job ≢ store.old.store.name.shard
+        → IsOwed K.TELLS (types_of J.making.settings.schema) (owed_by store.old.store.name.shard job e)))) }
 
     // What becomes of the leader, the store and its keeper.
     ensures node { LeaderDoes
@@ -117,7 +120,7 @@ pub fn merge_at<K: Keeper, J: Sharing>(
     requires here { owed.now.to ≡ store.old.store.name.shard }
     requires master { store.old.store.role ≡ Master }
     requires leader { log_at store.old.store.name.shard leader.old.served ≡ Some store.old.store.view.log }
-    requires owed { IsOwed (types_of J.making.settings.schema) (lent_owed owed.now) }
+    requires owed { IsOwed K.TELLS (types_of J.making.settings.schema) (lent_owed owed.now) }
     requires seen { WhereTold K.TELLS
         (entry_at (entries_seen store.old.notes.items owed.now.from) owed.now.entry.now.position ≡ Some owed.now.entry.now) }
     ensures node { LeaderDoes

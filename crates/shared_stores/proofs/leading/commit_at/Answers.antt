@@ -10,6 +10,7 @@ use Rattle.tao_schema.specs.Schema.{types_of}
 use Rattle.topology.specs.Config.{Settings}
 use Rattle.shared_stores.proofs.Kept.{sound_own}
 use Rattle.shared_stores.proofs.KeptCommits.{kept_commit, no_commit}
+use Rattle.shared_stores.proofs.OwedWrites.{owes_written}
 use Rattle.shared_stores.proofs.leading.commit_at.Goals as goal
 
 pub returns-in_err-meet-clause-done : goal.returns-in_err-meet-clause-done
@@ -53,3 +54,17 @@ invariant_of-store-2 g c =
           call.write.now c.requires.here c.requires.client c.requires.changes c.writes_keep_locked.ensures
           (g.met.K.Keeper.of_entries c.args.store.now.keeper x.name) r done made;
     }
+
+pub returns-clause-owes : goal.returns-clause-owes
+returns-clause-owes g c =
+    let tells = g.K.Keeper.TELLS in
+    let m = g.J.Sharing.making in
+    let x = c.args.store.now.store in
+    let old = g.K.Keeper.state c.args.store.now.keeper in
+    let new = g.K.Keeper.state c.commit_of.new.keepers in
+    let call = c.args.call.now in
+    let r = c.commit_of.result in
+    let there = subst (λ (y : Store). WriteDone tells y.name
+    (asked_at (types_of (settings c.args.around.now).schema) old.told y call.origin call.write.now) old new r) c.meet.ensures.same c.commit_of.ensures.done in
+    let done = subst (λ k. WriteDone tells x.name (asked_at (types_of k) old.told x call.origin call.write.now) old new r) c.requires.schema there in
+    owes_written tells m g.J.Logs.log x old new c.args.store.now.notes.items c.args.store.now.kept c.requires.master call.origin call.write.now r done

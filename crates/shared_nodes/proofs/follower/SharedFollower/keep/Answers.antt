@@ -25,18 +25,29 @@ invariant_of-self g c =
     (kept_at_shared g.J.Sharing.making g.J.Logs.log c.self.inside.name
     (c.named_nodes_stay.ensures g.J.Sharing.making.settings g.J.Logs.log c.self.inside.name) (lent_read c.args.read.now) c.args.schema.now c.args.ask
     c.args.fill c.self.inside.follower c.keep_with_note.new.follower c.keep_with_note.result c.requires.schema c.self.invariant c.requires.fill
-    c.keep_with_note.ensures.does c.keep_with_note.ensures.err c.keep_with_note.ensures.note c.keep_with_note.ensures.legal).kept
+    c.keep_with_note.ensures.does c.keep_with_note.ensures.err c.keep_with_note.ensures.note c.keep_with_note.ensures.legal
+    c.keep_with_note.ensures.open c.keep_with_note.ensures.on).kept
 
 pub returns-clause-note : goal.returns-clause-note
 returns-clause-note g c =
     (kept_at_shared g.J.Sharing.making g.J.Logs.log c.self.inside.name
     (c.named_nodes_stay.ensures g.J.Sharing.making.settings g.J.Logs.log c.self.inside.name) (lent_read c.args.read.now) c.args.schema.now c.args.ask
     c.args.fill c.self.inside.follower c.keep_with_note.new.follower c.keep_with_note.result c.requires.schema c.self.invariant c.requires.fill
-    c.keep_with_note.ensures.does c.keep_with_note.ensures.err c.keep_with_note.ensures.note c.keep_with_note.ensures.legal).note
+    c.keep_with_note.ensures.does c.keep_with_note.ensures.err c.keep_with_note.ensures.note c.keep_with_note.ensures.legal
+    c.keep_with_note.ensures.open c.keep_with_note.ensures.on).note
 
 pub returns-clause-legal : goal.returns-clause-legal
 returns-clause-legal g c =
     (kept_at_shared g.J.Sharing.making g.J.Logs.log c.self.inside.name
     (c.named_nodes_stay.ensures g.J.Sharing.making.settings g.J.Logs.log c.self.inside.name) (lent_read c.args.read.now) c.args.schema.now c.args.ask
     c.args.fill c.self.inside.follower c.keep_with_note.new.follower c.keep_with_note.result c.requires.schema c.self.invariant c.requires.fill
-    c.keep_with_note.ensures.does c.keep_with_note.ensures.err c.keep_with_note.ensures.note c.keep_with_note.ensures.legal).legal
+    c.keep_with_note.ensures.does c.keep_with_note.ensures.err c.keep_with_note.ensures.note c.keep_with_note.ensures.legal
+    c.keep_with_note.ensures.open c.keep_with_note.ensures.on).legal
+
+pub returns-clause-why : goal.returns-clause-why
+returns-clause-why g c =
+    (kept_at_shared g.J.Sharing.making g.J.Logs.log c.self.inside.name
+    (c.named_nodes_stay.ensures g.J.Sharing.making.settings g.J.Logs.log c.self.inside.name) (lent_read c.args.read.now) c.args.schema.now c.args.ask
+    c.args.fill c.self.inside.follower c.keep_with_note.new.follower c.keep_with_note.result c.requires.schema c.self.invariant c.requires.fill
+    c.keep_with_note.ensures.does c.keep_with_note.ensures.err c.keep_with_note.ensures.note c.keep_with_note.ensures.legal
+    c.keep_with_note.ensures.open c.keep_with_note.ensures.on).why

@@ -73,7 +73,7 @@ impl CountedNote {
     }
 
     /// A note of a master's log that sees the whole of it, and what the note had seen before.
-    pub(crate) fn whole(store: &mut StoreNode, note: Note) -> Result<CountedNote, OutOfMemory>
+    pub fn whole(store: &mut StoreNode, note: Note) -> Result<CountedNote, OutOfMemory>
         requires master { store.old.role ≡ Master }
         requires one_log { store.old.view.log ≡ note.log }
         ensures same { store.new ≡ store.old }

@@ -1,0 +1,112 @@
+//! `Cluster`, the nodes of a configuration, each under a lock of its own.
+ghost use Rattle.std.specs.Prelude.{◌≡◌, ◌≤◌, ◌<◌, IfNone, IfSome, length};
+ghost use Rattle.core_model.specs.Serving.{IsFollowerFor, IsLeaderFor};
+
+use core_model::{Named, find_node, store_place};
+use node_name::NodeName;
+use shared_inbox::SharedInbox;
+use shared_nodes::{SharedFollower, SharedLeader};
+use shared_stores::{SharedStore, Sharing};
+use std::alloc::Global;
+use std::marker::Model;
+use std::sync::Mutex;
+use tao_base::StoreName;
+use tao_keeper::Keeper;
+use tao_schema::Schema;
+use topology::{Config, Topology};
+
+/// A cache node behind its lock, and the inbox in which messages wait for it.
+#[derive(Drop)]
+pub(crate) struct Tiered<N, J: Sharing> {
+    pub(crate) node: Mutex<N>,
+    pub(crate) inbox: SharedInbox<J>,
+}
+
+/// The nodes of a configuration, which many threads call. A node is found by its name, a store by its place: region by region, and shard by shard.
+///
+/// Locks are taken in the order leader, then store; of two stores that of the lower region first, and in one region that of the lower shard.
+pub struct Cluster<'c, K: Keeper, J: Sharing> {
+    pub(crate) alloc: Global,
+    pub(crate) config: &'c Config,
+    pub(crate) topology: Topology,
+    pub(crate) leaders: Vec<Named<Tiered<SharedLeader<J>, J>>>,
+    pub(crate) followers: Vec<Named<Tiered<SharedFollower<J>, J>>>,
+    pub(crate) stores: Vec<Mutex<SharedStore<K, J>>>,
+    pub(crate) cuts: Vec<u64>,
+}
+
+impl<'c, K: Keeper, J: Sharing> Model for Cluster<'c, K, J> {
+    ghost use Rattle.std.specs.Prelude.{◌≡◌};
+    ghost use Rattle.shared_tiers.specs.Cluster.{AreCutsOf};
+    ghost use Rattle.topology.specs.Config.{Settings};
+    ghost use Rattle.topology.specs.States.{all_up};
+
+    ghost Value = { Settings };
+
+    ghost view = { λ c. c.config.now };
+
+    ghost invariant = { λ c. (c.config.now ≡ J.making.settings) × (c.topology ≡ all_up J.making.settings) × AreCutsOf J.making c.cuts.items };
+}
+
+impl<'c, K: Keeper, J: Sharing> Cluster<'c, K, J> {
+    /// The configuration that it was made with. Takes no memory.
+    pub fn config(&self) -> &Config
+        ensures { result.now ≡ J.making.settings }
+    {
+        self.config
+    }
+
+    /// How many entries of a shard's log were old when the cluster was made, which no call of it changes. None exactly where the shard isn't configured.
+    pub fn cut_of(&self, shard: u16) -> Option<u64>
+        ensures some { IfSome result (λ cut. (shard < J.making.settings.shards) × (cut ≡ J.making.cut shard)) }
+        ensures none { IfNone result (J.making.settings.shards ≤ shard) }
+    {
+        self.cuts.get(usize::from(shard)).copied()
+    }
+
+    /// The schema of the configuration.
+    pub(crate) fn schema(&self) -> &Schema
+        ensures { result.now ≡ J.making.settings.schema }
+    {
+        let config = self.config;
+        &config.schema
+    }
+
+    /// The follower that is chosen for a shard, for the sessions of a tier.
+    pub(crate) fn follower_for(&self, region: u16, tier: u16, shard: u16) -> Option<NodeName>
+        requires here { shard < J.making.settings.shards }
+        ensures serves { IfSome result (IsFollowerFor J.making.settings shard) }
+    {
+        self.topology.follower(region, tier, shard)
+    }
+
+    /// The leader that a region prefers for a shard.
+    pub(crate) fn leader_for(&self, region: u16, shard: u16) -> NodeName
+        requires home { region < length J.making.settings.regions }
+        requires here { shard < J.making.settings.shards }
+        ensures serves { IsLeaderFor J.making.settings shard result }
+    {
+        self.topology.preferred(region, shard)
+    }
+
+    /// A follower behind its lock, by its name.
+    pub(crate) fn follower(&self, name: NodeName) -> Option<&Mutex<SharedFollower<J>>> {
+        match find_node(&self.followers, name) {
+            Some(tiered) => Some(&tiered.node),
+            None => None,
+        }
+    }
+
+    /// A leader behind its lock, by its name.
+    pub(crate) fn leader(&self, name: NodeName) -> Option<&Mutex<SharedLeader<J>>> {
+        match find_node(&self.leaders, name) {
+            Some(tiered) => Some(&tiered.node),
+            None => None,
+        }
+    }
+
+    /// A store behind its lock, by its name.
+    pub(crate) fn store(&self, at: StoreName) -> Option<&Mutex<SharedStore<K, J>>> {
+        self.stores.get(store_place(self.config, at))
+    }
+}

@@ -20,10 +20,11 @@ ghost use Rattle.write_plan.specs.Plans.{answered_entry, answered_passed, next_o
 ghost use Rattle.write_plan.specs.declared.stage.WriteStage.TheVariants as stage;
 
 use crate::needs::last_leader;
-use core_steps::{Nodes, Route, ShardNote, link_fault};
+use core_steps::{Nodes, Route, ShardNote};
 use node_name::NodeName;
 use replies::{Refusal, Reply, StoreRefused};
 use shard_log::Note;
+use store_replies::link_fault;
 use tao_link::{Link, LinkFailed};
 use topology::Config;
 use write_plan::{WritePlan, WriteResult};

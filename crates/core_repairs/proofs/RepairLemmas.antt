@@ -47,7 +47,7 @@ use Rattle.core_steps.proofs.PostsLemmas.{posts_same}
 use Rattle.core_steps.proofs.NotifyLemmas.{arrived_grows, master_is, sends_both, within_master}
 use Rattle.core_steps.specs.Posting.{CanPost, PostsOn}
 use Rattle.core_steps.specs.ReadSteps.{AskFails}
-use Rattle.core_steps.specs.Replies.{refused_as}
+use Rattle.store_replies.specs.Refused.{refused_as}
 use Rattle.core_steps.specs.World.{World, outside_of, world, world_with}
 use Rattle.core_steps.specs.declared.nodes.Nodes.{Nodes}
 use Rattle.core_repairs.specs.Repairs.{FailsAs, FailsToMerge, FindsFirst, FindsOpenJob, IsMergedAlone, IsNotRepaired, IsNotRun}

@@ -19,11 +19,12 @@ ghost use Rattle.tao_keeper.specs.KeeperState.{IsLater, KeepsTables};
 
 use core_model::{ShardJob, far_shard, masters_are_regions};
 use core_nodes::Fleet;
-use core_steps::{Nodes, link_fault, refused_as};
+use core_steps::Nodes;
 use edge_repair::{RepairRefusal, passed_on};
 use replies::{NodeRefused, Refusal, StoreRefused, When};
 use shard_log::Note;
 use shard_tables::StoreRefusal;
+use store_replies::{link_fault, refused_as};
 use tao_base::{Entry, OutOfMemory};
 use tao_keeper::{Job, Keeper};
 use tao_link::Link;

@@ -17,7 +17,6 @@ ghost use Rattle.tao_link.specs.Shown.{after_carry};
 ghost use Rattle.tao_schema.specs.Schema.{types_of};
 
 use crate::nodes::Nodes;
-use crate::refusals::{link_fault, refused_as};
 use crate::routes::{Route, carry};
 use core_model::{Wanted, master_of, masters_are_regions};
 use core_nodes::master_store;
@@ -25,6 +24,7 @@ use leader_tier::at_floor;
 use node_name::NodeName;
 use replies::{Refusal, StoreRefused, When};
 use shard_tables::{LeaderAnswer, ReadOut};
+use store_replies::{link_fault, refused_as};
 use tao_base::Query;
 use tao_keeper::Keeper;
 use tao_link::{Link, LinkFailed};

@@ -43,7 +43,7 @@ mod writes;
 
 pub use jobs::{JobSender, LearntEntry, learnt_entry_of, learnt_far};
 pub use nodes::Nodes;
-pub use refusals::{link_fault, out_of_memory, refilled_as, refused_as};
+pub use refusals::refilled_as;
 pub use routes::{Route, TierPlace};
 pub use streaming::AskedStream;
 pub use writes::ShardNote;

@@ -25,13 +25,13 @@ ghost use Rattle.tao_link.specs.Shown.{LinkShown};
 
 use crate::asking::carried;
 use crate::nodes::Nodes;
-use crate::refusals::refused_as;
 use core_model::Around;
 use core_nodes::{NextEntry, master_store};
 use maint_msg::Maint;
 use node_name::NodeName;
 use replies::{NodeRefused, Refusal, StreamVerdict, Streamed};
 use shard_log::Note;
+use store_replies::refused_as;
 use tao_base::{Entry, OutOfMemory, StoreName};
 use tao_keeper::{Keeper, MOST_ENTRIES};
 use tao_link::Link;

@@ -19,12 +19,12 @@ ghost use Rattle.tao_link.specs.Shown.{after_carry};
 ghost use Rattle.tao_schema.specs.Schema.{types_of};
 
 use crate::nodes::Nodes;
-use crate::refusals::{link_fault, refused_as};
 use crate::routes::{Route, carry};
 use core_model::{AuthoredWrite, masters_are_regions};
 use replies::{Refusal, When};
 use shard_log::Note;
 use shard_tables::Wrote;
+use store_replies::{link_fault, refused_as};
 use tao_base::{Entry, OutOfMemory};
 use tao_keeper::Keeper;
 use tao_link::{Link, LinkFailed};

@@ -29,7 +29,8 @@ use Rattle.requests.specs.declared.request.Request.{Request}
 use Rattle.requests.specs.declared.request.Request.TheVariants as request
 use Rattle.requests.specs.declared.stores.StoreRequest.{StoreRequest}
 use Rattle.requests.specs.declared.stores.StoreRequest.TheVariants as store
-use Rattle.tao_core.specs.Asked.{admitted, asked_of, asking_session, fresh_plan, most_plans, plan_for, session_for}
+use Rattle.tao_core.specs.Asked.{admitted, asked_of, fresh_plan, most_plans, plan_for, session_for}
+use Rattle.requests.specs.CallWords.{asking_session}
 use Rattle.tao_core.specs.Core.{Moment}
 use Rattle.topology.specs.Config.{Settings}
 use Rattle.headline_kept.specs.Causes.{HasCause, PlanCause, SessionCause}

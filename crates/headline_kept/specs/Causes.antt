@@ -43,7 +43,8 @@ use Rattle.requests.specs.declared.request.Request.{Request}
 use Rattle.requests.specs.declared.request.Request.TheVariants as request
 use Rattle.shard_tables.specs.Written.{AskedWrite, IsLogFull, IsReused, IsTooOld, IsShardFull, IsStampFull}
 use Rattle.tao_base.specs.Writes.{write_shard}
-use Rattle.tao_core.specs.Asked.{asking_session, most_plans}
+use Rattle.tao_core.specs.Asked.{most_plans}
+use Rattle.requests.specs.CallWords.{asking_session}
 use Rattle.tao_core.specs.Core.{CoreState, Moment}
 use Rattle.tao_core.specs.HeldCalls.{HasNoServer, call_session, call_shard}
 use Rattle.tao_keeper.specs.KeeperState.{KeeperState}

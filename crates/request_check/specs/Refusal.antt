@@ -3,7 +3,7 @@ use Rattle.std.specs.Prelude.{Option, None, Some, Result}
 use Rattle.outcomes.specs.Results.{with_refusal}
 use Rattle.replies.specs.declared.refusals.NameRefused.{NameRefused}
 use Rattle.replies.specs.declared.refusals.Refusal.{Refusal}
-use Rattle.replies.specs.declared.refusals.Refusal.TheVariants.{Name}
+use Rattle.replies.specs.declared.refusals.Refusal.TheVariants.{Name, Memory}
 use Rattle.replies.specs.declared.reply.Reply.{Reply}
 use Rattle.replies.specs.declared.reply.Reply.TheVariants as reply
 use Rattle.request_check.specs.declared.refusal.CheckRefusal.{CheckRefusal}
@@ -20,6 +20,11 @@ name_unless_memory OutOfMemory = None
 abbrev pub reply_unless_memory : CheckRefusal → Option Reply
 reply_unless_memory (refusal.Refused reply) = Some reply
 reply_unless_memory refusal.OutOfMemory = None
+
+-- how it is replied that nothing is asked
+abbrev pub reply_as : CheckRefusal → Reply
+reply_as (refusal.Refused reply) = reply
+reply_as refusal.OutOfMemory = reply.Refused (Memory 0)
 
 -- a refused name is a refusal
 abbrev pub for_name : {A : Type 0} → Result A NameRefused → Result A Refusal

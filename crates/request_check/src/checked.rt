@@ -1,10 +1,13 @@
 //! Requests, with the places of what they name.
+ghost use Rattle.std.specs.Prelude.{◌≡◌};
+ghost use Rattle.tao_base.specs.declared.entry.Origin.TheVariants.{Client};
+
 use crate::caches::CheckedCache;
 use crate::health::CheckedHealth;
 use crate::links::CheckedLink;
 use crate::plans::CheckedPlan;
 use crate::stores::CheckedStore;
-use tao_base::{Query, Write};
+use tao_base::{Origin, Query, Write};
 
 /// A session's write, by its number.
 #[derive(Drop)]
@@ -12,6 +15,18 @@ pub struct CheckedWrite {
     pub session: u32,
     pub seq: u64,
     pub write: Write,
+}
+
+impl CheckedWrite {
+    /// Whose write it is: that of its session, under its number.
+    pub fn origin(&self) -> Origin
+        ensures { result ≡ Client self.now.session self.now.seq }
+    {
+        Origin::Client {
+            session: self.session,
+            seq: self.seq,
+        }
+    }
 }
 
 /// A session's read. A critical one is answered by the master's leader.

@@ -1,4 +1,7 @@
 //! Why a request is refused.
+ghost use Rattle.std.specs.Prelude.{◌≡◌};
+ghost use Rattle.request_check.specs.Refusal.{reply_as};
+
 use replies::{NameRefused, Refusal, Reply};
 use std::alloc::AllocError;
 use std::error::Error;
@@ -11,6 +14,18 @@ pub enum CheckRefusal {
     Refused(Reply),
     /// There was no memory. The request may be checked again.
     OutOfMemory,
+}
+
+impl CheckRefusal {
+    /// The reply that nothing is asked. Takes no memory.
+    pub fn into_reply(self) -> Reply
+        ensures { result ≡ reply_as self }
+    {
+        match self {
+            CheckRefusal::Refused(reply) => reply,
+            CheckRefusal::OutOfMemory => Reply::Refused(Refusal::Memory { position: 0 }),
+        }
+    }
 }
 
 impl fmt::Display for CheckRefusal {

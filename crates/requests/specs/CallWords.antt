@@ -1,4 +1,5 @@
--- The words of calls.
+-- The words of calls, and the sessions that ask them.
+use Rattle.std.specs.Prelude.{ℕ}
 use Rattle.words.specs.declared.ReadWord.{ReadWord}
 use Rattle.words.specs.declared.ReadWord.TheVariants as read
 use Rattle.words.specs.declared.Word.{Word}
@@ -33,3 +34,8 @@ read_word (AssocTimeRange list high low limit) = read.AssocTimeRange
 abbrev pub call_word : Call → Word
 call_word (Write call) = word.Write (write_word call.write)
 call_word (Read call) = word.Read (read_word call.query)
+
+-- the session that a call names
+abbrev pub asking_session : Call → ℕ
+asking_session (Write write) = write.session
+asking_session (Read read) = read.session

@@ -1,6 +1,6 @@
 //! The calls on objects and associations.
 ghost use Rattle.std.specs.Prelude.{◌≡◌};
-ghost use Rattle.requests.specs.CallWords.{call_word, read_word, write_word};
+ghost use Rattle.requests.specs.CallWords.{asking_session, call_word, read_word, write_word};
 
 use tao_base::{Data, Id, IdSet, Text, Time};
 use words::{ReadWord, Word, WriteWord};
@@ -138,6 +138,16 @@ impl Call {
         match self {
             Call::Write(call) => Word::Write(call.write.word()),
             Call::Read(call) => Word::Read(call.query.word()),
+        }
+    }
+
+    /// The number of the session that asks it.
+    pub fn session(&self) -> u32
+        ensures { result ≡ asking_session self.now }
+    {
+        match self {
+            Call::Write(write) => write.session,
+            Call::Read(read) => read.session,
         }
     }
 }

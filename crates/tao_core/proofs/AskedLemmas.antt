@@ -41,7 +41,8 @@ use Rattle.request_check.specs.declared.checked.CheckedCall.{CheckedCall}
 use Rattle.request_check.specs.declared.checked.CheckedCall.TheVariants as of_call
 use Rattle.request_check.specs.declared.plans.CheckedPlan.TheVariants as of_plan
 use Rattle.request_check.specs.declared.refusal.CheckRefusal.{CheckRefusal}
-use Rattle.tao_core.specs.Asked.{CallCanBeDone, CanBeDone, PlanCanBeDone, admitted, asking_session, fresh_plan, fresh_session}
+use Rattle.tao_core.specs.Asked.{CallCanBeDone, CanBeDone, PlanCanBeDone, admitted, fresh_plan, fresh_session}
+use Rattle.requests.specs.CallWords.{asking_session}
 use Rattle.tao_core.specs.Asked.{open_session, plan_for, session_for}
 
 -- ---- nodes

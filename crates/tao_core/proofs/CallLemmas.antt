@@ -10,7 +10,8 @@ use Rattle.request_check.specs.declared.checked.Checked.{Checked}
 use Rattle.request_check.specs.declared.refusal.CheckRefusal.{CheckRefusal}
 use Rattle.request_check.specs.declared.refusal.CheckRefusal.TheVariants as check
 use Rattle.topology.specs.Config.{Settings}
-use Rattle.tao_core.specs.Asked.{asked_of, reply_as}
+use Rattle.tao_core.specs.Asked.{asked_of}
+use Rattle.request_check.specs.Refusal.{reply_as}
 use Rattle.tao_core.specs.Core.{Moment}
 use Rattle.tao_core.specs.Replies.{AnswersAsked, AnswersRequest}
 use Rattle.core_sessions.specs.Sessions.{Session}

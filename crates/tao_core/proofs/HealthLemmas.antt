@@ -21,7 +21,7 @@ use Rattle.core_plans.proofs.AsksHeld.{empty_opens_none, same_opens_none}
 use Rattle.core_plans.specs.Held.{OpensNone}
 use Rattle.core_steps.proofs.LeaderNames.{leader_region}
 use Rattle.core_steps.specs.ReadSteps.{AskFails}
-use Rattle.core_steps.specs.Replies.{refused_as}
+use Rattle.store_replies.specs.Refused.{refused_as}
 use Rattle.counts.specs.Count.{Rose}
 use Rattle.follower_cache.specs.Seen.{FollowerState}
 use Rattle.node_name.specs.declared.NodeName.{NodeName}

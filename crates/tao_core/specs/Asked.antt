@@ -3,19 +3,17 @@ use Rattle.std.specs.Prelude.{ℕ, ◌≡◌, ◌<◌, true, false, IsSome, List
 use Rattle.outcomes.specs.Results.{◌>>=◌, refused_unless}
 use Rattle.tao_base.specs.Queries.{query_key}
 use Rattle.topology.specs.Config.{Settings}
+use Rattle.requests.specs.CallWords.{asking_session}
 use Rattle.requests.specs.declared.calls.Call.{Call}
-use Rattle.requests.specs.declared.calls.Call.TheVariants as call
 use Rattle.requests.specs.declared.plans.PlanRequest.{PlanRequest}
 use Rattle.requests.specs.declared.plans.PlanRequest.TheVariants as plan
 use Rattle.requests.specs.declared.request.Request.{Request}
 use Rattle.requests.specs.declared.request.Request.TheVariants as request
 use Rattle.replies.specs.declared.refusals.Refusal.{Refusal}
-use Rattle.replies.specs.declared.refusals.Refusal.TheVariants.{Plan, Memory}
+use Rattle.replies.specs.declared.refusals.Refusal.TheVariants.{Plan}
 use Rattle.replies.specs.declared.refusals.Refusal.TheVariants as refused
 use Rattle.replies.specs.declared.refusals.PlanRefused.TheVariants.{NoPlan, PlanThere, PlanFull}
 use Rattle.replies.specs.declared.refusals.SessionRefused.TheVariants.{NoSession, SessionThere, SessionFull}
-use Rattle.replies.specs.declared.reply.Reply.{Reply}
-use Rattle.replies.specs.declared.reply.Reply.TheVariants.{Refused}
 use Rattle.core_plans.specs.Held.{Plans, plan_at, plan_count}
 use Rattle.core_sessions.specs.Sessions.{Session, is_open, most_sessions}
 use Rattle.request_check.specs.Caches.{IsPlacedCache}
@@ -30,8 +28,6 @@ use Rattle.request_check.specs.declared.checked.CheckedCall.{CheckedCall}
 use Rattle.request_check.specs.declared.checked.CheckedCall.TheVariants as checked_call
 use Rattle.request_check.specs.declared.plans.CheckedPlan.{CheckedPlan}
 use Rattle.request_check.specs.declared.plans.CheckedPlan.TheVariants as checked_plan
-use Rattle.request_check.specs.declared.refusal.CheckRefusal.{CheckRefusal}
-use Rattle.request_check.specs.declared.refusal.CheckRefusal.TheVariants as check
 
 -- ---- plans
 
@@ -60,11 +56,6 @@ plan_for plans (request.Plan asked) = named_plan plans asked
 plan_for plans other = Ok tt
 
 -- ---- sessions
-
--- the session that a call names
-abbrev pub asking_session : Call → ℕ
-asking_session (call.Write write) = write.session
-asking_session (call.Read read) = read.session
 
 -- a call is of an open session
 abbrev pub open_session : List Session → ℕ → Result ⊤ Refusal
@@ -116,8 +107,3 @@ CanBeDone s sessions plans (checked.Cache asked) = IsPlacedCache s asked
 CanBeDone s sessions plans (checked.Store asked) = IsPlacedStore s asked
 CanBeDone s sessions plans (checked.Health asked) = IsPlacedHealth s asked
 CanBeDone s sessions plans (checked.Link asked) = ⊤
-
--- how it is replied that nothing is asked
-abbrev pub reply_as : CheckRefusal → Reply
-reply_as (check.Refused reply) = reply
-reply_as check.OutOfMemory = Refused (Memory 0)

@@ -4,12 +4,12 @@ ghost use Rattle.tao_keeper.specs.KeeperState.{IsLater, KeepsTables};
 
 use crate::refusals::failed_as;
 use core_nodes::master_store;
-use core_steps::out_of_memory;
 use plain_graph::answer;
 use replies::Reply;
 use request_check::CheckedRead;
 use shard_tables::whole_log;
 use std::alloc::Global;
+use store_replies::out_of_memory;
 use tao_base::OutOfMemory;
 use tao_keeper::Keeper;
 use topology::Config;

@@ -1,5 +1,4 @@
 //! Calls: the plan of a call is begun, and carried out at once or held.
-ghost use Rattle.tao_base.specs.declared.entry.Origin.TheVariants.{Client};
 ghost use Rattle.std.specs.Prelude.{◌≡◌, ◌<◌, IfErr, IfOk, IsSomeAnd, None, true};
 ghost use Rattle.core_model.specs.Pens.{pens_of};
 ghost use Rattle.core_model.specs.Stores.{AreStores, store_count};
@@ -20,12 +19,13 @@ use crate::teaching::{Reader, learn_both, learn_version, ready_reader};
 use core_nodes::Fleet;
 use core_plans::{EndedPlan, HeldPlan, begin_read, carry_read, carry_write};
 use core_sessions::{CallStart, OpenSession, Sessions};
-use core_steps::{TierPlace, out_of_memory};
+use core_steps::TierPlace;
 use node_name::NodeName;
 use read_plan::ReadPlan;
 use replies::{CallReply, Reply};
 use request_check::{CheckedCall, CheckedRead, CheckedWrite};
-use tao_base::{Origin, OutOfMemory};
+use store_replies::out_of_memory;
+use tao_base::OutOfMemory;
 use tao_keeper::Keeper;
 use tao_link::Link;
 use topology::{Config, Topology};
@@ -84,16 +84,6 @@ pub(crate) fn make_room(
     }
 }
 
-/// Whose write a call is: that of its session, under its number.
-fn client_of(call: &CheckedWrite) -> Origin
-    ensures { result ≡ Client call.now.session call.now.seq }
-{
-    Origin::Client {
-        session: call.session,
-        seq: call.seq,
-    }
-}
-
 /// Where the plan of a call begins: where the call does, and at the follower that is chosen for it.
 #[derive(Clone, Copy)]
 pub(crate) struct PlanStart {
@@ -131,7 +121,7 @@ fn begun_write(from: PlanStart, call: CheckedWrite) -> WritePlan
         ..
     } = from;
     let OpenSession { region, tier, .. } = start.place;
-    let origin = client_of(&call);
+    let origin = call.origin();
     WritePlan::begin(call.write, origin, region, tier, follower)
 }
 

@@ -12,11 +12,11 @@ ghost use Rattle.tao_keeper.specs.KeeperState.{KeeperState};
 ghost use Rattle.tao_link.specs.Shown.{LinkShown};
 
 use crate::serving::Core;
-use core_steps::{out_of_memory, refused_as};
 use node_name::NodeName;
 use replies::{NodeReply, Reply};
 use request_check::{CheckedHealth, LeaderPlace};
 use std::alloc::Global;
+use store_replies::{out_of_memory, refused_as};
 use tao_base::OutOfMemory;
 use tao_keeper::Keeper;
 use words::HealthWord;

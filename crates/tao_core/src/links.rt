@@ -3,9 +3,9 @@ ghost use Rattle.tao_core.specs.Core.{CoreState, moment};
 ghost use Rattle.tao_core.specs.LinkReplies.{AnswersLink, AnswersSwitch};
 ghost use Rattle.tao_keeper.specs.KeeperState.{KeeperState};
 
-use core_steps::out_of_memory;
 use replies::{NodeReply, Reply};
 use request_check::{CheckedLink, LinkPlace};
+use store_replies::out_of_memory;
 use tao_base::OutOfMemory;
 use tao_link::Link;
 use words::LinkWord;

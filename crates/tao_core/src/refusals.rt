@@ -2,9 +2,9 @@
 ghost use Rattle.std.specs.Prelude.{◌≡◌};
 ghost use Rattle.tao_core.specs.StoreReplies.{failed_as};
 
-use core_steps::out_of_memory;
 use node_name::NodeName;
 use replies::{NodeRefused, Refusal, Reply, StoreRefused};
+use store_replies::out_of_memory;
 use tao_base::StoreName;
 use tao_keeper::KeepFail;
 

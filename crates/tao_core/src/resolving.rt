@@ -4,13 +4,13 @@ ghost use Rattle.core_sessions.specs.Sessions.{sessions_of};
 ghost use Rattle.outcomes.specs.Results.{Gives};
 ghost use Rattle.request_check.specs.Refusal.{replied, reply_unless_memory};
 ghost use Rattle.tao_core.specs.Asked.{CanBeDone, admitted, asked_of, held_plan, fresh_session, fresh_plan, open_session, plan_for};
-ghost use Rattle.tao_core.specs.Asked.{named_plan, session_for, asking_session};
+ghost use Rattle.tao_core.specs.Asked.{named_plan, session_for};
 
 use core_plans::HeldPlans;
 use core_sessions::Sessions;
 use replies::{PlanRefused, Refusal, Reply, SessionRefused};
 use request_check::{CheckRefusal, Checked, check};
-use requests::{Call, PlanRequest, Request};
+use requests::{PlanRequest, Request};
 use std::alloc::Global;
 use topology::Config;
 
@@ -97,15 +97,6 @@ fn plan_for(plans: &HeldPlans, request: &Request) -> Result<(), Refusal>
 
 // ---- sessions
 
-fn session_of(call: &Call) -> u32
-    ensures { result ≡ asking_session call.now }
-{
-    match call {
-        Call::Write(write) => write.session,
-        Call::Read(read) => read.session,
-    }
-}
-
 /// Refuses a session that isn't open.
 fn open_session(sessions: &Sessions, session: u32) -> Result<(), Refusal>
     ensures { result ≡ open_session (sessions_of sessions.now) session }
@@ -138,8 +129,8 @@ fn session_for(sessions: &Sessions, request: &Request) -> Result<(), Refusal>
 {
     match request {
         Request::Open(opening) => fresh_session(sessions, opening.session),
-        Request::Call(call) => open_session(sessions, session_of(call)),
-        Request::Plan(PlanRequest::Hold { call, .. }) => open_session(sessions, session_of(call)),
+        Request::Call(call) => open_session(sessions, call.session()),
+        Request::Plan(PlanRequest::Hold { call, .. }) => open_session(sessions, call.session()),
         _ => Ok(()),
     }
 }

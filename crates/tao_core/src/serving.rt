@@ -3,7 +3,7 @@ ghost use Rattle.std.specs.Prelude.{◌≡◌, ◌<◌, Bool, Ok, IfOk, IfErr, i
 ghost use Rattle.core_nodes.specs.Shown.{IsHeldAt};
 ghost use Rattle.core_nodes.specs.Opening.{IsOpened, MayOpen, RefusesOpening};
 ghost use Rattle.graph_model.specs.Told.{WhereTold};
-ghost use Rattle.tao_core.specs.Asked.{CanBeDone, reply_as};
+ghost use Rattle.tao_core.specs.Asked.{CanBeDone};
 ghost use Rattle.tao_core.specs.Core.{IsConsistentCore, IsCoreOf, IsNewCore, StaysHeld, StaysUsable, moment};
 ghost use Rattle.tao_core.specs.Opened.{AreAsBefore};
 ghost use Rattle.core_nodes.specs.Beginning.{AreAtStores};
@@ -31,13 +31,14 @@ use core_model::masters_are_regions;
 use core_nodes::Fleet;
 use core_plans::HeldPlans;
 use core_sessions::{OpenSession, Sessions};
-use core_steps::{Nodes, out_of_memory};
+use core_steps::Nodes;
 use node_name::NodeName;
 use replies::{CacheReply, NodeReply, OpenRefusal, Reply};
-use request_check::{CheckRefusal, Checked};
+use request_check::Checked;
 use requests::Request;
 use std::alloc::Global;
 use std::marker::Model;
+use store_replies::out_of_memory;
 use tao_base::{Key, OutOfMemory};
 use tao_keeper::Keeper;
 use tao_link::Link;
@@ -136,7 +137,7 @@ impl<'c> Core<'c> {
     {
         match resolve(alloc, self.config, &self.sessions, &self.plans, request) {
             Ok(asked) => self.perform(alloc, keepers, link, asked),
-            Err(refusal) => unasked(refusal),
+            Err(refusal) => refusal.into_reply(),
         }
     }
 
@@ -240,14 +241,4 @@ pub(crate) fn mark_said(topology: &Topology, node: NodeName, low: u64) -> u64
     ensures { result ≡ (if is_up topology.now node then low else 0) }
 {
     if topology.is_up(node) { low } else { 0 }
-}
-
-/// The reply where nothing is asked.
-fn unasked(refusal: CheckRefusal) -> Reply
-    ensures { result ≡ reply_as refusal }
-{
-    match refusal {
-        CheckRefusal::Refused(reply) => reply,
-        CheckRefusal::OutOfMemory => out_of_memory(),
-    }
 }

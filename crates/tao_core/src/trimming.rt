@@ -6,9 +6,9 @@ ghost use Rattle.tao_core.specs.Trims.{AnswersTrim};
 ghost use Rattle.tao_link.specs.Shown.{LinkShown};
 
 use crate::serving::Core;
-use core_steps::refused_as;
 use core_trims::trim_over;
 use replies::{NodeReply, Reply};
+use store_replies::refused_as;
 use tao_base::StoreName;
 use tao_keeper::Keeper;
 

@@ -8,7 +8,7 @@ use Rattle.core_model.proofs.KeptStores.{sound_logs}
 use Rattle.core_model.specs.Jobs.{CanBeMerged, job_on}
 use Rattle.core_model.specs.Pens.{IsSeen, pens_of}
 use Rattle.core_model.specs.Stores.{master_store}
-use Rattle.core_steps.specs.Replies.{refused_as}
+use Rattle.store_replies.specs.Refused.{refused_as}
 use Rattle.core_steps.specs.Posting.{PostsOn, NotifiesOfNew, CanPost}
 use Rattle.core_steps.specs.World.{world, world_with}
 use Rattle.core_steps.specs.declared.nodes.Nodes.{Nodes}

@@ -2,7 +2,7 @@ use Rattle.std.proofs.Common.{◌≡◌, refl, subst, sym, ◌∙◌, ap, false,
 use Rattle.core_model.specs.Consistent.{IsConsistent}
 use Rattle.core_model.specs.States.{AreStatesOf}
 use Rattle.core_steps.specs.ReadSteps.{AskFails}
-use Rattle.core_steps.specs.Replies.{refused_as}
+use Rattle.store_replies.specs.Refused.{refused_as}
 use Rattle.request_check.specs.Placed.{IsPlacedNode}
 use Rattle.tao_keeper.specs.KeeperState.{IsLater}
 use Rattle.topology.specs.States.{is_up}

@@ -1,7 +1,7 @@
 use Rattle.std.proofs.Common.{refl, subst, sym, ◌∙◌, ap}
 use Rattle.core_model.specs.Stores.{IsConfiguredStore}
 use Rattle.core_steps.specs.ReadSteps.{AskFails}
-use Rattle.core_steps.specs.Replies.{refused_as}
+use Rattle.store_replies.specs.Refused.{refused_as}
 use Rattle.tao_core.specs.Core.{CoreState, IsCoreOf, core_state}
 use Rattle.tao_core.proofs.HealthLemmas.{fails_to_ask}
 use Rattle.tao_core.proofs.Trimmed.{fails_to_trim, trim_usable, trims_store, untrimmed_usable}

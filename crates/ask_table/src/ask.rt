@@ -6,7 +6,7 @@ use std::marker::Model;
 use tao_base::Key;
 
 /// The number of an ask, which no other ask of its table was given. Contracts see the number.
-#[derive(Clone, Copy, Debug, PartialEq, Eq)]
+#[derive(Clone, Copy, PartialEq, Eq)]
 pub struct AskNo {
     number: u64,
 }
@@ -38,7 +38,7 @@ impl AskNo {
 
 /// An open ask: the low-water mark of its key's shard when it began, and the greatest version raised
 /// on its key since, 0 at first.
-#[derive(Clone, Copy, Debug)]
+#[derive(Clone, Copy)]
 pub struct Ask {
     pub number: AskNo,
     pub key: Key,

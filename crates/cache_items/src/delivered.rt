@@ -10,7 +10,7 @@ use std::marker::Model;
 use tao_base::Key;
 
 /// A list that was dropped, the version that it lacked, and how many of its edges were held.
-#[derive(Debug, Clone, Copy, PartialEq, Eq)]
+#[derive(Clone, Copy, PartialEq, Eq)]
 pub struct DroppedList {
     pub key: Key,
     pub version: u64,
@@ -18,7 +18,7 @@ pub struct DroppedList {
 }
 
 /// Lists that were dropped, in the order in which a message names them.
-#[derive(Debug, Drop)]
+#[derive(Drop)]
 pub struct DroppedLists {
     rows: Vec<DroppedList>,
 }
@@ -81,7 +81,7 @@ impl DroppedLists {
 }
 
 /// How many items a message dropped, and a row for each list among them for which there was memory.
-#[derive(Debug, Drop)]
+#[derive(Drop)]
 pub struct Delivered {
     pub dropped: u64,
     pub lists: DroppedLists,

@@ -11,7 +11,7 @@ use tao_base::{Change, Object, OutOfMemory, Query};
 use tao_schema::Schema;
 
 /// What was found at a key, which is exact at the version.
-#[derive(Debug, Drop)]
+#[derive(Drop)]
 pub struct Item {
     pub version: u64,
     pub content: Content,

@@ -13,7 +13,7 @@ use std::alloc::{AllocError, Global};
 use tao_base::Text;
 
 /// What the program is asked to do.
-#[derive(Debug, Drop)]
+#[derive(Drop)]
 pub enum Words {
     /// To serve standard input, over tables in this file, or in memory where there is none.
     Run { sql: Option<Text> },
@@ -22,7 +22,7 @@ pub enum Words {
 }
 
 /// Why the words say nothing.
-#[derive(Clone, Copy, Debug, PartialEq, Eq)]
+#[derive(Clone, Copy, PartialEq, Eq)]
 pub enum WordsRefusal {
     /// They are no words of the program, or ask for help or its version alone.
     Usage,

@@ -11,7 +11,7 @@ use std::marker::Model;
 use tao_base::{Entry, Key, OutOfMemory};
 
 /// A session, and its place: its region's in the configuration, and its tier's in that region.
-#[derive(Clone, Copy, Debug, PartialEq, Eq)]
+#[derive(Clone, Copy, PartialEq, Eq)]
 pub struct OpenSession {
     pub session: u32,
     pub region: u16,
@@ -19,7 +19,7 @@ pub struct OpenSession {
 }
 
 /// Where a call of a session begins: at the session's place, and the version that its reads of a key have at least.
-#[derive(Clone, Copy, Debug, PartialEq, Eq)]
+#[derive(Clone, Copy, PartialEq, Eq)]
 pub struct CallStart {
     pub place: OpenSession,
     pub floor: u64,

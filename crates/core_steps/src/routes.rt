@@ -7,14 +7,14 @@ use node_name::NodeName;
 use tao_link::{Link, LinkFailed};
 
 /// From the follower of a session to a leader, or to the store that is asked in the place of one, and back.
-#[derive(Clone, Copy, Debug, PartialEq, Eq)]
+#[derive(Clone, Copy, PartialEq, Eq)]
 pub struct Route {
     pub follower: NodeName,
     pub leader: NodeName,
 }
 
 /// A tier: the place of its region, and its own in that region.
-#[derive(Clone, Copy, Debug, PartialEq, Eq)]
+#[derive(Clone, Copy, PartialEq, Eq)]
 pub struct TierPlace {
     pub region: u16,
     pub tier: u16,

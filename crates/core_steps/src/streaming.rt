@@ -39,7 +39,7 @@ use topology::Config;
 
 /// What a stream is asked for: the store of a region and a shard, and the position of the entry that is to be carried; without one it is the
 /// entry that the store takes next.
-#[derive(Clone, Copy, Debug, PartialEq, Eq)]
+#[derive(Clone, Copy, PartialEq, Eq)]
 pub struct AskedStream {
     pub at: StoreName,
     pub position: Option<u64>,

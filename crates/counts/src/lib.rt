@@ -16,7 +16,7 @@ pub use planned::PlannedCalls;
 use std::marker::Model;
 
 /// A count of calls or of faults. At its last value, 2^64 - 1, it stands still.
-#[derive(Clone, Copy, Debug, Default, PartialEq, Eq)]
+#[derive(Clone, Copy, Default, PartialEq, Eq)]
 pub struct Count {
     value: u64,
 }

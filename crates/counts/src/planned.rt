@@ -6,7 +6,7 @@ use crate::Count;
 use std::marker::Model;
 
 /// Calls that are counted from 1 on, with the numbers of those that fail.
-#[derive(Debug, Drop)]
+#[derive(Drop)]
 pub struct PlannedCalls {
     fails: Vec<u64>,
     count: Count,

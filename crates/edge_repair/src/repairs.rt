@@ -24,7 +24,7 @@ use tao_keeper::{Job, Keeper};
 use tao_link::Link;
 
 /// What a repair wrote.
-#[derive(Debug, Drop)]
+#[derive(Drop)]
 pub struct RepairOutcome {
     /// The entry that merged the job at the other store; none where all of its records were there.
     pub wrote: Option<Entry>,

@@ -15,7 +15,7 @@ const MOST_REFILLS: usize = 256;
 
 /// What to ask for a list that was dropped: as many edges as were held and ten more, at the version
 /// that dropped it or above.
-#[derive(Debug, Drop)]
+#[derive(Drop)]
 pub struct Refill {
     pub query: Query,
     pub floor: u64,

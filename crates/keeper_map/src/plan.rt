@@ -8,7 +8,7 @@ use std::marker::Model;
 use tao_keeper::KeepFail;
 
 /// The numbers of the calls that fail, among all calls and among the commits. Both count from 1.
-#[derive(Debug, Drop)]
+#[derive(Drop)]
 pub struct Fails {
     pub calls: Vec<u64>,
     pub commits: Vec<u64>,

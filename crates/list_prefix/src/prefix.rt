@@ -15,7 +15,7 @@ use std::marker::Model;
 use tao_base::{Answer, Change, Edge, Edges, OutOfMemory, Query};
 
 /// What a prefix says to a query of its list.
-#[derive(Debug, Drop)]
+#[derive(Drop)]
 pub enum Verdict {
     /// The answer of the whole list.
     Decided(Answer),
@@ -25,7 +25,7 @@ pub enum Verdict {
 
 /// The first edges of an association list, in the list's order, and how many edges the list has.
 /// It is complete where it holds them all. Contracts see the edges and the length.
-#[derive(Debug, Drop)]
+#[derive(Drop)]
 pub struct Prefix {
     edges: Vec<Edge>,
     total: u64,

@@ -5,7 +5,7 @@ use shard_tables::{LeaderAnswer, ReadOut};
 use tao_base::Answer;
 
 /// The stage that a read does next.
-#[derive(Clone, Copy, Debug, PartialEq, Eq)]
+#[derive(Clone, Copy, PartialEq, Eq)]
 pub enum ReadStage {
     /// The follower looks for the key among its items. Where it doesn't answer, an ask is opened.
     Look,

@@ -16,7 +16,7 @@ use tao_base::Entry;
 use tao_keeper::Keeper;
 
 /// Moves the entries of a master's log to a slave's store, and counts how often there was none to move.
-#[derive(Clone, Copy, Debug)]
+#[derive(Clone, Copy)]
 pub struct Follow {
     empties: Count,
 }

@@ -5,7 +5,7 @@ use crate::runs::Run;
 use std::alloc::{AllocError, Global};
 
 /// What is wrong with how a run ended.
-#[derive(Clone, Copy, Debug, PartialEq, Eq)]
+#[derive(Clone, Copy, PartialEq, Eq)]
 pub enum Fault {
     /// The reply of this place, from 0 on, is the first that isn't the expected one.
     Reply(usize),

@@ -2,7 +2,7 @@
 use std::alloc::{AllocError, Global};
 
 /// A text that stands there so many times, each time with the end of a line or without it.
-#[derive(Clone, Copy, Debug)]
+#[derive(Clone, Copy)]
 pub struct Piece<'a> {
     pub text: &'a str,
     pub copies: u64,

@@ -5,7 +5,7 @@ use crate::turns::tells_turn;
 use std::alloc::{AllocError, Global};
 
 /// Why a text is no script.
-#[derive(Clone, Copy, Debug, PartialEq, Eq)]
+#[derive(Clone, Copy, PartialEq, Eq)]
 pub enum Unread {
     /// The line of this number, from 1 on, has no meaning where it stands.
     Line(usize),

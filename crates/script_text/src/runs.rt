@@ -2,7 +2,7 @@
 use std::alloc::{AllocError, Global};
 
 /// Runs, one after the other.
-#[derive(Debug, Drop)]
+#[derive(Drop)]
 pub struct Script {
     /// The calls of a keeper that fail, by their numbers from 1 on.
     pub calls: Vec<u64>,
@@ -16,7 +16,7 @@ pub struct Script {
 }
 
 /// A store's log before any run: an object for each number, which is that of session 1's write.
-#[derive(Debug, Drop)]
+#[derive(Drop)]
 pub struct GivenLog {
     pub region: u16,
     pub shard: u16,
@@ -24,7 +24,7 @@ pub struct GivenLog {
 }
 
 /// One run: what it is given, and how it has to end.
-#[derive(Debug, Drop)]
+#[derive(Drop)]
 pub struct Run {
     /// Whether it goes over a keeper without tables, and not over that of the run before it.
     pub is_anew: bool,

@@ -9,7 +9,7 @@ use tao_schema::Schema;
 
 /// What is found at a key: of an object's key the object, if there is one, and of a list's key its
 /// first edges and its length.
-#[derive(Debug, Drop)]
+#[derive(Drop)]
 pub enum Content {
     Object(Option<Object>),
     List(Prefix),

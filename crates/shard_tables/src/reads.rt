@@ -15,7 +15,7 @@ use tao_keeper::{KeepFail, Keeper};
 use tao_schema::Schema;
 
 /// What a read found.
-#[derive(Debug, Drop)]
+#[derive(Drop)]
 pub struct Found {
     /// The answer to the query.
     pub answer: Answer,

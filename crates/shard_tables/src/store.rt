@@ -15,7 +15,7 @@ use tao_base::{Entry, OutOfMemory, StoreName};
 use write_touches::LAST_EPOCH;
 
 /// What a store is for its shard.
-#[derive(Clone, Copy, Debug, PartialEq, Eq)]
+#[derive(Clone, Copy, PartialEq, Eq)]
 pub enum StoreRole {
     /// It makes the writes.
     Master,

@@ -10,7 +10,7 @@ use std::fmt;
 use std::marker::Model;
 
 /// A key with its value.
-#[derive(Clone, Debug, Drop)]
+#[derive(Clone, Drop)]
 pub struct Pair {
     pub key: Text,
     pub value: Text,
@@ -51,7 +51,7 @@ impl fmt::Display for DataRefusal {
 impl Error for DataRefusal {}
 
 /// Pairs in the order of their keys, each key once: at most 32, spelled in at most 4,096 bytes.
-#[derive(Clone, Debug, Drop)]
+#[derive(Clone, Drop)]
 pub struct Data {
     pairs: Vec<Pair>,
 }

@@ -12,7 +12,7 @@ pub type Time = u32;
 
 /// Which of two records of an edge is the later: the one of the greater number, and of equal
 /// numbers the one of the greater shard.
-#[derive(Clone, Copy, Debug, PartialEq, Eq, PartialOrd, Ord)]
+#[derive(Clone, Copy, PartialEq, Eq, PartialOrd, Ord)]
 pub struct Stamp {
     pub number: u64,
     pub shard: u16,
@@ -28,14 +28,14 @@ impl Stamp {
 }
 
 /// An object: its type and its data.
-#[derive(Clone, Debug, Drop)]
+#[derive(Clone, Drop)]
 pub struct Object {
     pub otype: OType,
     pub payload: Data,
 }
 
 /// A live association, as it stands in the list of its id1 and type.
-#[derive(Clone, Debug, Drop)]
+#[derive(Clone, Drop)]
 pub struct Edge {
     pub id2: Id,
     pub time: Time,
@@ -53,7 +53,7 @@ impl Edge {
 }
 
 /// The record of an edge. One that was cut keeps its stamp.
-#[derive(Clone, Debug, Drop)]
+#[derive(Clone, Drop)]
 pub enum EdgeState {
     Live {
         time: Time,
@@ -78,7 +78,7 @@ impl EdgeState {
 }
 
 /// Edges, as a list gives them.
-#[derive(Clone, Debug, Drop)]
+#[derive(Clone, Drop)]
 pub struct Edges {
     edges: Vec<Edge>,
 }

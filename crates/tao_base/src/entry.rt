@@ -8,7 +8,7 @@ use std::alloc::AllocError;
 use std::marker::Model;
 
 /// What an entry does at a key. `was` is the time of the edge just before, where it was live.
-#[derive(Clone, Debug, Drop)]
+#[derive(Clone, Drop)]
 pub enum Change {
     PutObject(Object),
     DropObject,
@@ -33,7 +33,7 @@ impl Change {
 }
 
 /// A key, what is done there, and the key's version after it: how many entries touch the key so far.
-#[derive(Clone, Debug, Drop)]
+#[derive(Clone, Drop)]
 pub struct Touch {
     pub key: Key,
     pub change: Change,
@@ -41,7 +41,7 @@ pub struct Touch {
 }
 
 /// The touches of an entry, in order: those at id1, the cut before the set, then those at id2.
-#[derive(Clone, Debug, Drop)]
+#[derive(Clone, Drop)]
 pub struct Touches {
     touches: Vec<Touch>,
 }
@@ -73,7 +73,7 @@ impl Touches {
 
 /// Who asked for an entry: a client by its session and the number of its write, or the merge of the
 /// job that the entry at a position of another shard's log left.
-#[derive(Clone, Copy, Debug, PartialEq, Eq)]
+#[derive(Clone, Copy, PartialEq, Eq)]
 pub enum Origin {
     Client { session: u32, seq: u64 },
     Merge { shard: u16, position: u64 },
@@ -92,7 +92,7 @@ pub enum Kind {
 }
 
 /// One entry of a shard's log. Positions count from 1.
-#[derive(Debug, Drop)]
+#[derive(Drop)]
 pub struct Entry {
     pub position: u64,
     pub kind: Kind,

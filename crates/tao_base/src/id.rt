@@ -7,7 +7,7 @@ use std::marker::Model;
 
 /// The id of an object: its shard in the upper 16 bits, its serial, from 1, in the lower 48.
 /// Contracts see the number.
-#[derive(Clone, Copy, Debug, PartialEq, Eq, PartialOrd, Ord, Hash)]
+#[derive(Clone, Copy, PartialEq, Eq, PartialOrd, Ord, Hash)]
 pub struct Id {
     number: u64,
 }
@@ -65,16 +65,16 @@ impl Id {
 }
 
 /// An association type: its place in the schema.
-#[derive(Clone, Copy, Debug, PartialEq, Eq, PartialOrd, Ord, Hash)]
+#[derive(Clone, Copy, PartialEq, Eq, PartialOrd, Ord, Hash)]
 pub struct AType(pub u16);
 
 /// An object type: its place in the schema.
-#[derive(Clone, Copy, Debug, PartialEq, Eq)]
+#[derive(Clone, Copy, PartialEq, Eq)]
 pub struct OType(pub u16);
 
 /// What an entry touches and a cache holds: an object, or the list of the associations of one type
 /// that go out from one id.
-#[derive(Clone, Copy, Debug, PartialEq, Eq, PartialOrd, Ord, Hash)]
+#[derive(Clone, Copy, PartialEq, Eq, PartialOrd, Ord, Hash)]
 pub enum Key {
     Obj(Id),
     List(Id, AType),

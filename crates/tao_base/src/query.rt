@@ -7,7 +7,7 @@ use super::id::{AType, Id, Key};
 use std::marker::Model;
 
 /// Ids, each once, in rising order.
-#[derive(Clone, Debug, Drop)]
+#[derive(Clone, Drop)]
 pub struct IdSet {
     ids: Vec<Id>,
 }
@@ -71,7 +71,7 @@ impl IdSet {
 
 /// What a client asks to be read: an object, or of an association list the edges to some ids, its
 /// length, the edges at some places, or the newest edges of some times.
-#[derive(Clone, Debug, Drop)]
+#[derive(Clone, Drop)]
 pub enum Query {
     ObjGet {
         id: Id,
@@ -125,7 +125,7 @@ impl Query {
 }
 
 /// What a query is answered with.
-#[derive(Clone, Debug, Drop)]
+#[derive(Clone, Drop)]
 pub enum Answer {
     Object(Option<Object>),
     Edges(Edges),

@@ -49,7 +49,7 @@ impl Text {
 }
 
 /// Bytes. Contracts see their list.
-#[derive(Clone, Debug, Drop)]
+#[derive(Clone, Drop)]
 pub struct Bytes {
     bytes: Vec<u8>,
 }

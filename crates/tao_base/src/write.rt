@@ -9,7 +9,7 @@ use super::id::{AType, Id, OType};
 
 /// What a client asks to be written. An association is added, cut or moved by its two ids and its
 /// type; data is given whole.
-#[derive(Clone, Debug, Drop)]
+#[derive(Clone, Drop)]
 pub enum Write {
     ObjAdd {
         shard: u16,

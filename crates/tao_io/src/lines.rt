@@ -25,7 +25,7 @@ const HELD_LIMIT: usize = LINE_LIMIT + 1;
 const CHUNK: usize = 65_536;
 
 /// What came next of a source's lines.
-#[derive(Clone, Copy, Debug, PartialEq, Eq)]
+#[derive(Clone, Copy, PartialEq, Eq)]
 pub enum NextLine {
     /// A line, without its end.
     Line,

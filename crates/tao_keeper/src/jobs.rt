@@ -9,7 +9,7 @@ use tao_base::{AType, EdgeState, Id};
 pub type JobEdge = (Id, AType, Id, EdgeState);
 
 /// The records of a job: at most one, or a cut and then what is set in its place.
-#[derive(Clone, Debug, Drop)]
+#[derive(Clone, Drop)]
 pub struct JobEdges {
     edges: Vec<JobEdge>,
 }
@@ -40,7 +40,7 @@ impl JobEdges {
 }
 
 /// What the entry at a position owes to another shard.
-#[derive(Debug, Drop)]
+#[derive(Drop)]
 pub struct Job {
     pub position: u64,
     pub edges: JobEdges,

@@ -100,7 +100,7 @@ pub enum Opened {
 }
 
 /// What one transaction adds to a store.
-#[derive(Debug, Drop)]
+#[derive(Drop)]
 pub struct Commit {
     pub entry: Entry,
     /// What the entry owes to another shard, which is open from then on until it is ended.

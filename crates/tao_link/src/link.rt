@@ -10,7 +10,7 @@ use std::fmt;
 use tao_base::OutOfMemory;
 
 /// A carry, by the nodes that it goes from and to. Each direction between two nodes is a carry of its own.
-#[derive(Clone, Copy, Debug, PartialEq, Eq)]
+#[derive(Clone, Copy, PartialEq, Eq)]
 pub struct Carry {
     pub from: NodeName,
     pub to: NodeName,

@@ -15,7 +15,7 @@ use tao_base::OutOfMemory;
 /// carry has the number 1.
 ///
 /// A carry that fails looks through the list of numbers. Every other call takes constant time, and none takes memory.
-#[derive(Debug, Drop)]
+#[derive(Drop)]
 pub struct PlannedLink {
     carries: PlannedCalls,
     faults: Count,

@@ -11,7 +11,7 @@ use tao_base::OutOfMemory;
 /// A link that always carries, whatever it was asked to cut. Contracts see it as the count of its carries.
 ///
 /// Each call takes constant time and no memory.
-#[derive(Debug, Drop)]
+#[derive(Drop)]
 pub struct SteadyLink {
     carries: Count,
 }

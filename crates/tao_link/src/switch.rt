@@ -14,7 +14,7 @@ use tao_base::OutOfMemory;
 /// A link that fails exactly at the carries that are cut, and tells them. Each direction is cut and mended alone.
 ///
 /// A carry and a switch look through the cuts. Cutting takes memory for one carry, and no other call takes any.
-#[derive(Debug, Drop)]
+#[derive(Drop)]
 pub struct SwitchLink {
     cuts: Vec<Carry>,
     carries: Count,

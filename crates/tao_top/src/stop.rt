@@ -7,7 +7,7 @@ use tao_base::OutOfMemory;
 use tao_io::{ReadFault, SinkFailed};
 
 /// What may end a run at any line.
-#[derive(Clone, Copy, Debug, PartialEq, Eq)]
+#[derive(Clone, Copy, PartialEq, Eq)]
 pub(crate) enum Interrupt {
     /// The source failed.
     Source,
@@ -81,7 +81,7 @@ impl Interrupt {
 }
 
 /// Why a run ends before the end of its input.
-#[derive(Clone, Copy, Debug, PartialEq, Eq)]
+#[derive(Clone, Copy, PartialEq, Eq)]
 pub(crate) enum Stop {
     /// The first line is no configuration, or not the one that a store was first opened with.
     Configuration,

@@ -9,7 +9,7 @@ ghost use Rattle.std.specs.Prelude.{◌≡◌, IfSome, Some};
 ghost use Rattle.words.specs.Words.{word_text, word_of_text};
 
 /// The writes.
-#[derive(Clone, Copy, Debug, PartialEq, Eq)]
+#[derive(Clone, Copy, PartialEq, Eq)]
 pub enum WriteWord {
     ObjAdd,
     ObjUpdate,
@@ -20,7 +20,7 @@ pub enum WriteWord {
 }
 
 /// The reads.
-#[derive(Clone, Copy, Debug, PartialEq, Eq)]
+#[derive(Clone, Copy, PartialEq, Eq)]
 pub enum ReadWord {
     ObjGet,
     AssocGet,
@@ -30,21 +30,21 @@ pub enum ReadWord {
 }
 
 /// What takes a plan one stage further: a new one, or one that is held.
-#[derive(Clone, Copy, Debug, PartialEq, Eq)]
+#[derive(Clone, Copy, PartialEq, Eq)]
 pub enum PlanWord {
     Hold,
     Advance,
 }
 
 /// What delivers a message: taken out of its inbox, or left there, to be delivered again.
-#[derive(Clone, Copy, Debug, PartialEq, Eq)]
+#[derive(Clone, Copy, PartialEq, Eq)]
 pub enum DeliveryWord {
     Deliver,
     Again,
 }
 
 /// What changes whether a node is up, or whether a tier trusts a leader.
-#[derive(Clone, Copy, Debug, PartialEq, Eq)]
+#[derive(Clone, Copy, PartialEq, Eq)]
 pub enum HealthWord {
     Down,
     Up,
@@ -53,14 +53,14 @@ pub enum HealthWord {
 }
 
 /// What changes whether a link carries.
-#[derive(Clone, Copy, Debug, PartialEq, Eq)]
+#[derive(Clone, Copy, PartialEq, Eq)]
 pub enum LinkWord {
     Cut,
     Mend,
 }
 
 /// What a request's `do` may be.
-#[derive(Clone, Copy, Debug, PartialEq, Eq)]
+#[derive(Clone, Copy, PartialEq, Eq)]
 pub enum Word {
     Open,
     Write(WriteWord),

@@ -6,7 +6,7 @@ use crate::results::{LeftOpen, WriteResult};
 use replies::{Reply, Stage};
 
 /// A stage of a write, in the order in which they follow.
-#[derive(Clone, Copy, Debug, PartialEq, Eq)]
+#[derive(Clone, Copy, PartialEq, Eq)]
 pub enum WriteStage {
     /// The master's leader writes.
     Commit,

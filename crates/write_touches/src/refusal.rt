@@ -3,7 +3,7 @@ use std::alloc::AllocError;
 use tao_keeper::KeepFail;
 
 /// Why no touches of a write are given. No table has changed then.
-#[derive(Clone, Copy, Debug, PartialEq, Eq)]
+#[derive(Clone, Copy, PartialEq, Eq)]
 pub enum TouchRefusal {
     /// A call of the keeper failed, and its count of faults rose.
     KeeperFault,

@@ -8,7 +8,8 @@ use Rattle.core_steps.proofs.PostsLemmas.{posts_carried, posts_trans}
 use Rattle.core_steps.specs.Posting.{CanPost, PostsOn}
 use Rattle.core_steps.specs.Relays.{link_past}
 use Rattle.core_steps.specs.World.{World, world}
-use Rattle.core_steps.specs.Writes.{CanBeApplied, IsCommitted, SentWrite, client_call, sent_write}
+use Rattle.core_model.specs.Asked.{client_call}
+use Rattle.core_steps.specs.Writes.{CanBeApplied, IsCommitted, SentWrite, sent_write}
 use Rattle.core_steps.specs.declared.nodes.Nodes.{Nodes}
 use Rattle.core_nodes.specs.Settling.{IsLaterLink}
 use Rattle.node_name.specs.declared.NodeName.{NodeName}

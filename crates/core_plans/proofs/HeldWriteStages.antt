@@ -11,7 +11,8 @@ use Rattle.core_steps.specs.declared.routes.TierPlace.{TierPlace}
 use Rattle.core_steps.specs.Posting.{PostsOn}
 use Rattle.core_steps.specs.World.{World}
 use Rattle.core_steps.specs.Routes.{hops_between}
-use Rattle.core_steps.specs.Writes.{CanBeApplied, IsCommitted, asked_of_log, client_call}
+use Rattle.core_model.specs.Asked.{client_call}
+use Rattle.core_steps.specs.Writes.{CanBeApplied, IsCommitted, asked_of_log}
 use Rattle.graph_model.proofs.Members.{if_some_at}
 use Rattle.graph_model.specs.Told.{WhereTold}
 use Rattle.node_name.specs.declared.NodeName.{NodeName}

@@ -11,7 +11,8 @@ use Rattle.core_model.specs.Pens.{Rise, pens_of}
 use Rattle.core_model.specs.Stores.{AreKeptIn}
 use Rattle.core_model.specs.Writes.{IsSeenEntry}
 use Rattle.core_steps.specs.OtherEnds.{StandsThere}
-use Rattle.core_steps.specs.Writes.{CanBeApplied, AuthoredWrite}
+use Rattle.core_model.specs.Asked.{AuthoredWrite}
+use Rattle.core_steps.specs.Writes.{CanBeApplied}
 use Rattle.graph_model.specs.Told.{WhereTold}
 use Rattle.shard_log.proofs.GrowthLemmas.{grows-trans}
 use Rattle.shard_log.specs.View.{View}

@@ -11,7 +11,8 @@ use Rattle.core_steps.specs.OtherEnds.{EndsOver, MergesOver, StandsThere, sent_j
 use Rattle.core_steps.specs.declared.jobs.JobSender.{JobSender}
 use Rattle.core_steps.specs.Posting.{AppliesAlone, PostsOn}
 use Rattle.core_steps.specs.Relays.{LeaderRelays, RefusesPassing, RelaysAlone, link_past}
-use Rattle.core_steps.specs.Writes.{AuthoredWrite, CanBeApplied, FollowerTakes, IsCommitted, RefusesCommit, SentWrite, client_call, sent_write}
+use Rattle.core_model.specs.Asked.{AuthoredWrite, client_call}
+use Rattle.core_steps.specs.Writes.{CanBeApplied, FollowerTakes, IsCommitted, RefusesCommit, SentWrite, sent_write}
 use Rattle.core_steps.specs.declared.routes.Route.{Route}
 use Rattle.graph_model.specs.Soundness.{is_client}
 use Rattle.graph_model.specs.Told.{WhereTold}

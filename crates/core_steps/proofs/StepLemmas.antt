@@ -14,7 +14,8 @@ use Rattle.tao_keeper.specs.Table.{AreOfEntries}
 use Rattle.tao_schema.specs.Schema.{types_of}
 use Rattle.topology.specs.Config.{Settings}
 use Rattle.core_model.specs.Stores.{master_log, master_store, masters_of}
-use Rattle.core_steps.specs.Writes.{AuthoredWrite, CommitsCall, StepsAs, asked_of_log, given_by_log, new_entry, stores_now}
+use Rattle.core_model.specs.Asked.{AuthoredWrite}
+use Rattle.core_steps.specs.Writes.{CommitsCall, StepsAs, asked_of_log, given_by_log, new_entry, stores_now}
 
 module _ (s : Settings) (old new : KeeperState) (call : AuthoredWrite) (within : write_shard call.write < s.shards) where
   module _ (sound : IsSoundOf (types_of s.schema) (write_shard call.write) (master_log s old.told (write_shard call.write)))

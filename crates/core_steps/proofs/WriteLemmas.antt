@@ -18,7 +18,8 @@ use Rattle.node_name.specs.declared.NodeName.{NodeName}
 use Rattle.core_steps.specs.Posting.{NotifiesOfNew}
 use Rattle.core_steps.specs.World.{World}
 use Rattle.store_replies.specs.Refused.{refused_as}
-use Rattle.core_steps.specs.Writes.{AuthoredWrite, RefusesCommit, RefusesThere, asked_of_log, sent_write}
+use Rattle.core_model.specs.Asked.{AuthoredWrite}
+use Rattle.core_steps.specs.Writes.{RefusesCommit, RefusesThere, asked_of_log, sent_write}
 use Rattle.core_steps.specs.declared.routes.Route.{Route}
 use Rattle.core_model.specs.Fleet.{Fleet}
 use Rattle.core_steps.specs.declared.nodes.Nodes.{Nodes}

@@ -1,7 +1,7 @@
 -- What the commit of a write is answered, and what it does to the log of its shard and to the nodes.
 use Rattle.std.specs.Prelude.{ℕ, ◌≡◌, Bool, true, false, List, Option, Some, None, IfSome, if◌then◌else◌}
 use Rattle.counts.specs.Count.{Rose}
-use Rattle.core_model.specs.declared.asked.AuthoredWrite.{AuthoredWrite as LentWrite}
+use Rattle.core_model.specs.Asked.{AuthoredWrite}
 use Rattle.core_model.specs.Fleet.{ChangesNode, Fleet}
 use Rattle.core_model.specs.Pens.{pens_of}
 use Rattle.core_model.specs.Stores.{master_store, stores_in}
@@ -23,8 +23,6 @@ use Rattle.shard_tables.specs.Written.{AnswersAs, AskedWrite, HasEntry, LiesOn, 
 use Rattle.tao_base.specs.EdgeTypes.{EdgeTypes}
 use Rattle.tao_base.specs.Writes.{write_shard}
 use Rattle.tao_base.specs.declared.entry.Entry.{Entry}
-use Rattle.tao_base.specs.declared.entry.Origin.{Origin}
-use Rattle.tao_base.specs.declared.write.Write.{Write}
 use Rattle.tao_keeper.specs.KeeperState.{KeeperState}
 use Rattle.tao_link.specs.Shown.{after_carry}
 use Rattle.tao_schema.specs.Schema.{types_of}
@@ -37,19 +35,6 @@ use Rattle.core_steps.specs.Posting.{ChangesNoNode, LeaderTakes, NotifiesOfNew}
 use Rattle.core_steps.specs.Routes.{FailsCarry}
 use Rattle.core_steps.specs.World.{World}
 use Rattle.core_steps.specs.declared.routes.Route.{Route}
-
--- the write of a client, under its origin
-pub record AuthoredWrite : Type 0 where
-  pub origin : Origin
-  pub write : Write
-
--- a client's write, under the origin by which a retry is known
-abbrev pub client_call : Origin → Write → AuthoredWrite
-client_call origin write = record { origin = origin; write = write }
-
--- a client's write that is lent
-abbrev pub lent_call : LentWrite → AuthoredWrite
-lent_call call = client_call call.origin call.write.now
 
 -- the write of a client along a route
 pub record SentWrite : Type 0 where

@@ -12,7 +12,7 @@ use Rattle.core_plans.specs.LedBy.{rules_of}
 use Rattle.core_plans.specs.declared.held.HeldPlan.{HeldPlan}
 use Rattle.core_plans.specs.declared.held.HeldPlan.TheVariants as of
 use Rattle.core_sessions.specs.Sessions.{Session}
-use Rattle.core_steps.specs.Writes.{AuthoredWrite}
+use Rattle.core_model.specs.Asked.{AuthoredWrite}
 use Rattle.graph_model.specs.Log.{entry_at}
 use Rattle.graph_model.specs.Told.{WhereTold}
 use Rattle.node_name.specs.declared.NodeName.{NodeName}

@@ -16,7 +16,8 @@ use Rattle.core_plans.specs.declared.held.HeldPlan.{HeldPlan}
 use Rattle.core_plans.specs.declared.held.HeldPlan.TheVariants as of
 use Rattle.core_plans.specs.declared.needs.Needs.{Needs}
 use Rattle.core_steps.specs.OtherEnds.{master_leader}
-use Rattle.core_steps.specs.Writes.{AuthoredWrite, asked_of_log}
+use Rattle.core_model.specs.Asked.{AuthoredWrite}
+use Rattle.core_steps.specs.Writes.{asked_of_log}
 use Rattle.graph_model.specs.Told.{WhereTold}
 use Rattle.node_name.specs.declared.NodeName.{NodeName}
 use Rattle.plain_promise.specs.Promise.{refused_at}

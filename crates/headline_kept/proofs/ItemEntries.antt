@@ -15,7 +15,8 @@ use Rattle.core_plans.specs.HeldWrites.{IsAnswerTo, call_of_plan}
 use Rattle.core_steps.proofs.ReadLemmas.{log_is}
 use Rattle.core_steps.proofs.WriteLemmas.{stands_in_log}
 use Rattle.core_steps.specs.World.{World}
-use Rattle.core_steps.specs.Writes.{AuthoredWrite, CanBeApplied}
+use Rattle.core_model.specs.Asked.{AuthoredWrite}
+use Rattle.core_steps.specs.Writes.{CanBeApplied}
 use Rattle.graph_model.specs.Log.{entry_at}
 use Rattle.graph_model.specs.Told.{WhereTold}
 use Rattle.headline_kept.specs.Touches.{IsOfWrite, StandsOn}

@@ -22,7 +22,7 @@ use Rattle.core_plans.specs.declared.leaders.Leaders.{Leaders}
 use Rattle.core_steps.specs.OtherEnds.{EndsOver, JobWay, LeavesJob, MergesAlong, MergesBy, SentJob, TakesMerge, job_way, master_leader, merging_leader}
 use Rattle.core_steps.specs.OtherEnds.{sent_job}
 use Rattle.core_steps.specs.World.{World}
-use Rattle.core_steps.specs.Writes.{AuthoredWrite, client_call}
+use Rattle.core_model.specs.Asked.{AuthoredWrite, client_call}
 use Rattle.headline_kept.proofs.ItemEntries.{IsUnder, all_later, all_since, merged_is, own_answered}
 use Rattle.headline_kept.proofs.NamedLeaders.{all_of}
 use Rattle.headline_kept.proofs.ItemWrites.{AllTake, both_take, follower_takes, leader_relays, leader_takes, same_take}

@@ -12,7 +12,7 @@ use Rattle.core_plans.specs.Needs.{leaders_of_write, read_down, write_down}
 use Rattle.core_plans.specs.declared.held.HeldPlan.{HeldPlan}
 use Rattle.core_plans.specs.declared.held.HeldPlan.TheVariants as of
 use Rattle.core_steps.specs.World.{World, outside_of}
-use Rattle.core_steps.specs.Writes.{AuthoredWrite}
+use Rattle.core_model.specs.Asked.{AuthoredWrite}
 use Rattle.core_sessions.specs.Sessions.{Session, session_at}
 use Rattle.graph_model.specs.Told.{WhereTold}
 use Rattle.node_name.specs.declared.NodeName.{NodeName}

@@ -20,7 +20,8 @@ use Rattle.core_plans.specs.declared.leaders.Leaders.{Leaders}
 use Rattle.core_steps.proofs.ReadLemmas.{log_is}
 use Rattle.core_steps.proofs.WriteLemmas.{stands_in_log}
 use Rattle.core_steps.specs.World.{World, outside_of}
-use Rattle.core_steps.specs.Writes.{asked_of_log, client_call, new_entry}
+use Rattle.core_model.specs.Asked.{client_call}
+use Rattle.core_steps.specs.Writes.{asked_of_log, new_entry}
 use Rattle.counts.proofs.Rises.{Rose-earlier}
 use Rattle.graph_model.specs.Log.{entry_at}
 use Rattle.graph_model.specs.Told.{WhereTold}

@@ -11,7 +11,8 @@ use Rattle.core_plans.specs.Needs.{read_down, write_down}
 use Rattle.core_plans.specs.declared.held.HeldPlan.{HeldPlan}
 use Rattle.core_plans.specs.declared.held.HeldPlan.TheVariants as of
 use Rattle.core_sessions.specs.Sessions.{Session, is_open, most_sessions, session_at}
-use Rattle.core_steps.specs.Writes.{AuthoredWrite, asked_of_log}
+use Rattle.core_model.specs.Asked.{AuthoredWrite}
+use Rattle.core_steps.specs.Writes.{asked_of_log}
 use Rattle.counts.specs.Count.{Rose}
 use Rattle.follower_cache.specs.Seen.{FollowerState}
 use Rattle.graph_model.specs.Told.{WhereTold}

@@ -5,7 +5,7 @@ use Rattle.core_plans.specs.Held.{Plans, plan_at}
 use Rattle.core_plans.specs.HeldWrites.{call_of_plan}
 use Rattle.core_plans.specs.declared.held.HeldPlan.{HeldPlan}
 use Rattle.core_plans.specs.declared.held.HeldPlan.TheVariants as of
-use Rattle.core_steps.specs.Writes.{AuthoredWrite, client_call}
+use Rattle.core_model.specs.Asked.{AuthoredWrite, client_call}
 use Rattle.graph_model.specs.Log.{entry_at}
 use Rattle.graph_model.specs.Told.{WhereTold}
 use Rattle.plain_promise.specs.Promise.{HasEachOnce}

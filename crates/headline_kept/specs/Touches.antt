@@ -14,7 +14,7 @@ use Rattle.core_plans.specs.Held.{plan_at}
 use Rattle.core_plans.specs.Needs.{asked_of_read}
 use Rattle.core_plans.specs.declared.held.HeldPlan.{HeldPlan}
 use Rattle.core_plans.specs.declared.held.HeldPlan.TheVariants as of
-use Rattle.core_steps.specs.Writes.{AuthoredWrite}
+use Rattle.core_model.specs.Asked.{AuthoredWrite}
 use Rattle.follower_cache.specs.Seen.{FollowerState}
 use Rattle.follower_cache.specs.declared.queue.Refill.{Refill}
 use Rattle.graph_model.specs.Log.{entry_at}

@@ -1,6 +1,7 @@
 //! The value of a leader's lock.
-ghost use Rattle.std.specs.Prelude.{◌≡◌, ◌≢◌, ◌≤◌, ◌+◌, IfErr, IfOk, IfSome, IsTrue, OnErr, OnOk, Some, if◌then◌else◌, is_some, length, slice_get, true};
-ghost use Rattle.core_model.specs.Asked.{lent_read, settings};
+ghost use Rattle.std.specs.Prelude.{◌≡◌, ◌≢◌, ◌≤◌, ◌+◌, IfErr, IfOk, IfSome, IsTrue, OnErr, OnOk, Some, if◌then◌else◌, is_some, length};
+ghost use Rattle.std.specs.Prelude.{slice_get, true};
+ghost use Rattle.core_model.specs.Asked.{lent_call, lent_read, settings};
 ghost use Rattle.core_model.specs.Fleet.{named};
 ghost use Rattle.core_model.specs.Jobs.{far_shard};
 ghost use Rattle.core_model.specs.Messages.{IsRightMessage};
@@ -212,7 +213,8 @@ impl<J: Sharing> SharedLeader<J> {
         ensures name { self.new.name ≡ self.old.name }
 
         // What is answered, of what the note has then seen.
-        ensures answer { WhereTold K.TELLS (WriteAnswers (asked_of_seen J.making (write_shard call.now.write.now) note.new.entries call.now) result) }
+        ensures answer { WhereTold K.TELLS
+            (WriteAnswers (asked_of_seen J.making (write_shard call.now.write.now) note.new.entries (lent_call call.now)) result) }
         ensures grows { Grows note.old note.new }
         ensures after { IfOk result (λ wrote. Grows note.new wrote.note) }
         ensures owes { IfOk result (λ wrote. IfSome wrote.job (λ job. IfSome wrote.entry (λ e. far_shard job ≢ write_shard call.now.write.now

@@ -1,6 +1,6 @@
 -- What contracts see of what is lent to a store under its lock.
 use Rattle.std.specs.Prelude.{ℕ, List}
-use Rattle.core_model.specs.declared.asked.AuthoredWrite.{AuthoredWrite}
+use Rattle.core_model.specs.Asked.{AuthoredWrite}
 use Rattle.shard_tables.specs.Written.{AskedWrite}
 use Rattle.tao_base.specs.declared.entry.Entry.{Entry}
 use Rattle.tao_schema.specs.Schema.{types_of}
@@ -21,5 +21,5 @@ asked_of_seen m shard entries call = record {
   log = entries;
   cut = m.cut shard;
   origin = call.origin;
-  write = call.write.now;
+  write = call.write;
 }

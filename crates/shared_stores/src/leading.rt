@@ -1,6 +1,6 @@
 //! The stages at a leader and at the store of its lock's value, while that lock is held too.
 ghost use Rattle.std.specs.Prelude.{◌≡◌, ◌≢◌, IfErr, IfOk, IfSome, IsTrue, OnErr, Some, true};
-ghost use Rattle.core_model.specs.Asked.{settings};
+ghost use Rattle.core_model.specs.Asked.{lent_call, settings};
 ghost use Rattle.core_model.specs.Jobs.{far_shard};
 ghost use Rattle.graph_model.specs.Log.{entry_at};
 ghost use Rattle.graph_model.specs.Soundness.{is_client};
@@ -76,7 +76,7 @@ pub fn commit_at<K: Keeper, J: Sharing>(
     requires changes { ChangesType (types_of J.making.settings.schema) call.now.write.now }
 
     // What is answered, of what the note has then seen.
-    ensures answer { WhereTold K.TELLS (WriteAnswers (asked_of_seen J.making store.old.store.name.shard note.new.entries call.now) result) }
+    ensures answer { WhereTold K.TELLS (WriteAnswers (asked_of_seen J.making store.old.store.name.shard note.new.entries (lent_call call.now)) result) }
     ensures grows { Grows note.old note.new }
     ensures after { IfOk result (λ wrote. Grows note.new wrote.note) }
     ensures owes { IfOk result (λ wrote. IfSome wrote.job (λ job. IfSome wrote.entry (λ e. far_shard job ≢ store.old.store.name.shard

@@ -7,7 +7,8 @@ use Rattle.core_model.specs.Pens.{pens_of}
 use Rattle.core_steps.proofs.PostsLemmas.{posts_carried}
 use Rattle.core_steps.specs.Posting.{PostsOn}
 use Rattle.core_steps.specs.World.{world}
-use Rattle.core_steps.specs.Writes.{CanBeApplied, IsCommitted, RefusesCommit, client_call, sent_write}
+use Rattle.core_model.specs.Asked.{client_call}
+use Rattle.core_steps.specs.Writes.{CanBeApplied, IsCommitted, RefusesCommit, sent_write}
 use Rattle.core_steps.specs.declared.nodes.Nodes.{Nodes}
 use Rattle.shard_log.specs.View.{View, as_note}
 use Rattle.tao_base.specs.Writes.{write_shard}

@@ -12,7 +12,8 @@ use Rattle.store_replies.specs.Refused.{refused_as}
 use Rattle.core_steps.specs.Posting.{PostsOn, NotifiesOfNew, CanPost}
 use Rattle.core_steps.specs.World.{world, world_with}
 use Rattle.core_steps.specs.declared.nodes.Nodes.{Nodes}
-use Rattle.core_steps.specs.Writes.{CanBeApplied, IsCommitted, RefusesCommit, client_call, new_entry, sent_write}
+use Rattle.core_model.specs.Asked.{client_call}
+use Rattle.core_steps.specs.Writes.{CanBeApplied, IsCommitted, RefusesCommit, new_entry, sent_write}
 use Rattle.core_nodes.proofs.GrowingLemmas.{gains_stores, stays_stores}
 use Rattle.core_steps.proofs.LinkLemmas.{carried_on}
 use Rattle.core_steps.proofs.MergeLemmas.{can_merge}

@@ -21,7 +21,8 @@ use Rattle.core_model.specs.Growing.{StoresGrow}
 use Rattle.core_model.specs.Jobs.{CanBeMerged, IsOwedJob, job_on}
 use Rattle.core_model.specs.Stores.{HaveMasterRegions, master_store}
 use Rattle.core_nodes.proofs.GrowingLemmas.{becomes_stores}
-use Rattle.core_steps.specs.MergeAnswers.{RefusesMerge, merge_answer, why_open}
+use Rattle.core_steps.specs.MergeAnswers.{RefusesMerge, merge_answer}
+use Rattle.store_replies.specs.Refused.{why_left_open}
 use Rattle.core_steps.specs.OtherEnds.{Crosses, FailsToCross, GoesBetween, JobWay, LeavesJob, MayComeBack, MergesAlong, MergesBy, MergesOver, SentJob}
 use Rattle.core_steps.specs.OtherEnds.{TakesMerge, merging_leader}
 use Rattle.core_steps.specs.Posting.{ChangesNoNode}
@@ -58,7 +59,7 @@ module _ (tells : Bool) (s : Settings) (way : JobWay) (old new : World) (mid : L
   may_come_back (Err lost) crosses fails = inr (fails_back way.leader way.merging old.link mid new.link there fails)
 
   late_merge : (r : StoreRefusal) → RefusesMerge tells s way.job r old.keepers new.keepers → ChangesNoNode tells old new
-      → MayComeBack way.leader way.merging old.link new.link → LeavesJob tells s way (Scheduled (why_open r) None) old new
+      → MayComeBack way.leader way.merging old.link new.link → LeavesJob tells s way (Scheduled (why_left_open r) None) old new
   late_merge KeeperFault cause same back = (cause, same, back)
   late_merge (LogFull count) cause same back = ((λ told. (count, cause told)), same, back)
   late_merge OutOfMemory cause same back = (same, back)

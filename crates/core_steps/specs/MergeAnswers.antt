@@ -4,11 +4,11 @@ use Rattle.counts.specs.Count.{Rose}
 use Rattle.core_model.specs.Jobs.{ShardJob}
 use Rattle.core_nodes.specs.Repairs.{FindsNoRoom}
 use Rattle.graph_model.specs.Told.{WhereTold}
-use Rattle.replies.specs.declared.calls.ScheduledWhy.{ScheduledWhy}
 use Rattle.replies.specs.declared.calls.ScheduledWhy.TheVariants as why
 use Rattle.shard_tables.specs.declared.refusal.StoreRefusal.{StoreRefusal}
 use Rattle.shard_tables.specs.declared.refusal.StoreRefusal.TheVariants.{KeeperFault, LogFull, ShardFull, StampFull, SeqReused, TooOld, OutOfMemory}
 use Rattle.shard_tables.specs.declared.writes.Wrote.{Wrote}
+use Rattle.store_replies.specs.Refused.{why_left_open}
 use Rattle.tao_keeper.specs.KeeperState.{KeeperState}
 use Rattle.tao_link.specs.declared.link.LinkFailed.{LinkFailed}
 use Rattle.topology.specs.Config.{Settings}
@@ -25,15 +25,9 @@ RefusesMerge tells s j (SeqReused at) old new = ⊥
 RefusesMerge tells s j (ShardFull serial) old new = ⊥
 RefusesMerge tells s j (StampFull number) old new = ⊥
 
--- why a job is left open that the store refused to merge or to end; what refuses a write alone refuses neither
-abbrev pub why_open : StoreRefusal → ScheduledWhy
-why_open KeeperFault = why.KeeperFault
-why_open (LogFull count) = why.LogFull
-why_open refusal = why.Memory
-
 -- the job stays open, and nothing was written
 abbrev pub left_open_as : StoreRefusal → LeftOpen
-left_open_as refusal = Scheduled (why_open refusal) None
+left_open_as refusal = Scheduled (why_left_open refusal) None
 
 -- what a merge is answered, over the carry back: what was written is said also where its answer was lost, and a refusal stands in any case
 abbrev pub merge_answer : Result Wrote StoreRefusal → Result ⊤ LinkFailed → Result Wrote LeftOpen

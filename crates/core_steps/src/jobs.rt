@@ -9,7 +9,7 @@ ghost use Rattle.core_model.specs.Pens.{pens_of};
 ghost use Rattle.core_model.specs.Serving.{IsLeaderIn};
 ghost use Rattle.core_model.specs.States.{AreStatesOf};
 ghost use Rattle.core_model.specs.Stores.{master_of};
-ghost use Rattle.core_steps.specs.MergeAnswers.{RefusesMerge, left_open_as, merge_answer, why_open};
+ghost use Rattle.core_steps.specs.MergeAnswers.{RefusesMerge, left_open_as, merge_answer};
 ghost use Rattle.core_steps.specs.OtherEnds.{Crosses, EndsOver, FailsToCross, MergesOver, StandsThere, TakesMerge, job_way};
 ghost use Rattle.core_steps.specs.OtherEnds.{known_of, master_leader, learnt_entry_of, learnt_far, sent_job};
 ghost use Rattle.core_steps.specs.declared.jobs.JobSender.{JobSender as Sender};
@@ -28,6 +28,7 @@ use node_name::NodeName;
 use replies::ScheduledWhy;
 use shard_log::Note;
 use shard_tables::{StoreRefusal, Wrote};
+use store_replies::why_left_open;
 use tao_base::Entry;
 use tao_keeper::{Job, Keeper};
 use tao_link::{Link, LinkFailed};
@@ -78,26 +79,13 @@ fn carry_between<L: Link>(link: &mut L, from: NodeName, to: NodeName) -> Result<
     carry(link, from, to)
 }
 
-/// Why a job is left open that the store refused to merge or to end.
-fn why_open(refusal: &StoreRefusal) -> ScheduledWhy
-    requires { IsOfMerges refusal.now }
-    ensures { result ≡ why_open refusal.now }
-{
-    match refusal {
-        StoreRefusal::KeeperFault => ScheduledWhy::KeeperFault,
-        StoreRefusal::LogFull { .. } => ScheduledWhy::LogFull,
-        StoreRefusal::OutOfMemory => ScheduledWhy::Memory,
-        _ => unreachable!(),
-    }
-}
-
 /// A job that stays open, which the store refused to merge or to end.
 fn left_open_as(refusal: StoreRefusal) -> LeftOpen
     requires { IsOfMerges refusal }
     ensures { result ≡ left_open_as refusal }
 {
     LeftOpen::Scheduled {
-        why: why_open(&refusal),
+        why: why_left_open(&refusal),
         wrote: None,
     }
 }

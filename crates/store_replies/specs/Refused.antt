@@ -1,5 +1,7 @@
--- How a store's refusal is said.
+-- How a store's refusal is said, and why it leaves a job open.
 use Rattle.std.specs.Prelude.{ℕ}
+use Rattle.replies.specs.declared.calls.ScheduledWhy.{ScheduledWhy}
+use Rattle.replies.specs.declared.calls.ScheduledWhy.TheVariants as why
 use Rattle.replies.specs.declared.refusals.Refusal.{Refusal}
 use Rattle.replies.specs.declared.refusals.Refusal.TheVariants.{Store, Memory}
 use Rattle.replies.specs.declared.refusals.StoreRefused.TheVariants.{SeqReused, TooOld, ShardFull, StampFull, LogFull, KeeperFault}
@@ -15,3 +17,9 @@ refused_as faults (store.SeqReused position) = Store (SeqReused position)
 refused_as faults (store.ShardFull serial) = Store (ShardFull serial)
 refused_as faults (store.StampFull number) = Store (StampFull number)
 refused_as faults (store.LogFull count) = Store (LogFull count)
+
+-- why a job is left open that the store refused to merge or to end; what refuses a write alone refuses neither
+abbrev pub why_left_open : StoreRefusal → ScheduledWhy
+why_left_open store.KeeperFault = why.KeeperFault
+why_left_open (store.LogFull count) = why.LogFull
+why_left_open refusal = why.Memory

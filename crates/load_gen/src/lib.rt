@@ -15,8 +15,6 @@ mod kind;
 pub mod laws;
 mod names;
 mod nodes;
-#[cfg(test)]
-mod tests;
 mod workload;
 
 pub use counting::{is_settle, refusals, summary};

@@ -5,12 +5,11 @@
 //! exactly where a `take` of it answers None.
 //!
 //! The contracts that say so: `SharedInbox::put`, `take`; `InboxPass::empties`, `split`. That None comes only where the inbox
-//! was empty at a moment of the call, that each message is taken once, and the order, no clause can say: the tests show them.
+//! was empty at a moment of the call, that each message is taken once, and the order, no clause can say: its tests, which stand in
+//! `store_tests`, show them.
 #![tactic(auto)]
 
 mod inbox;
 mod rule;
-#[cfg(test)]
-mod tests;
 
 pub use inbox::{InboxPass, SharedInbox};

@@ -1,4 +1,4 @@
-use Rattle.shared_inbox.proofs.tests.empties.named.Given as goal
+use Rattle.store_tests.proofs.inbox.empties.named.Given as goal
 
 -- the log that was just made
 abbrev pub ghosts-take_by_two : goal.ghosts-take_by_two

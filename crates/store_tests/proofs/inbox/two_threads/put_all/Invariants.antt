@@ -1,5 +1,5 @@
 use Rattle.std.proofs.Common.{◌≡◌}
-use Rattle.shared_inbox.proofs.tests.two_threads.put_all.Given as goal
+use Rattle.store_tests.proofs.inbox.two_threads.put_all.Given as goal
 
 -- the pass and the note are as they were
 abbrev pub invariant-loop-turn : goal.invariant-loop-turn

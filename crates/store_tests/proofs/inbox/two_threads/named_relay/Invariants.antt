@@ -1,4 +1,4 @@
-use Rattle.shared_inbox.proofs.tests.two_threads.named_relay.Given as goal
+use Rattle.store_tests.proofs.inbox.two_threads.named_relay.Given as goal
 
 -- the log that was just made
 abbrev pub ghosts-relay : goal.ghosts-relay

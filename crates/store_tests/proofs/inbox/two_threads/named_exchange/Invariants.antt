@@ -1,4 +1,4 @@
-use Rattle.shared_inbox.proofs.tests.two_threads.named_exchange.Given as goal
+use Rattle.store_tests.proofs.inbox.two_threads.named_exchange.Given as goal
 
 -- one log for both shards, which was just made
 abbrev pub ghosts-exchange : goal.ghosts-exchange

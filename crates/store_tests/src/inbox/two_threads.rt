@@ -3,9 +3,9 @@ ghost use Rattle.std.specs.Prelude.{◌≡◌, false};
 ghost use Rattle.log_names.specs.Names.{IsOfLog};
 
 use super::messages::{Known, known_at, known_of, message_at, note_of_new_log};
-use crate::{InboxPass, SharedInbox};
 use log_names::Logs;
 use shard_log::Note;
+use shared_inbox::{InboxPass, SharedInbox};
 use std::alloc::Global;
 use std::marker::Brand;
 use std::sync::Wait;

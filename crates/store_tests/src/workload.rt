@@ -2,7 +2,7 @@
 ghost use Rattle.std.specs.Prelude.{IsTrue};
 ghost use Rattle.topology.specs.Named.{in_range};
 
-use super::Workload;
+use load_gen::Workload;
 use requests::{
     CacheRequest, Call, EdgeName, QueryText, ReadCall, Request, StoreRequest, WriteCall, WriteText,
 };

@@ -1,5 +1,5 @@
 use Rattle.std.proofs.Common.{◌≡◌}
-use Rattle.shared_inbox.proofs.tests.two_threads.take_all.Given as goal
+use Rattle.store_tests.proofs.inbox.two_threads.take_all.Given as goal
 
 -- the pass is of the same inbox
 abbrev pub invariant-loop : goal.invariant-loop

@@ -27,7 +27,8 @@ use Rattle.core_plans.specs.HeldLaws.{AsksStayHeld}
 use Rattle.core_plans.specs.Held.{AsksAreHeld, OpensNone, Plans, is_open_ask}
 use Rattle.core_plans.specs.HeldWrites.{ComesOfWrite, CommitsBy, DoesWriteStage, job_by, job_sender, way_by}
 use Rattle.core_plans.specs.LedBy.{Rules, led_by}
-use Rattle.core_plans.specs.Needs.{last_leader, leaders_of_write}
+use Rattle.core_plans.specs.Needs.{leaders_of_write}
+use Rattle.write_plan.specs.Plans.{last_leader}
 use Rattle.core_plans.specs.declared.leaders.Leaders.{Leaders}
 use Rattle.core_plans.proofs.RefusedWrites.{refused_none}
 use Rattle.core_steps.specs.OtherEnds.{ChangesKeepers, EndsOver, JobWay, LeavesJob, MergesAlong, MergesBy, MergesOver, SentJob, job_way}

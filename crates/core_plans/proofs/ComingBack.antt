@@ -23,7 +23,7 @@ use Rattle.write_plan.specs.declared.results.WriteResult.TheVariants as came
 use Rattle.write_plan.specs.declared.stage.WriteStage.TheVariants.{Apply, Relay}
 use Rattle.core_plans.specs.HeldWrites.{DoesWriteStage, way_by}
 use Rattle.core_plans.specs.LedBy.{rules_of}
-use Rattle.core_plans.specs.Needs.{last_leader}
+use Rattle.write_plan.specs.Plans.{last_leader}
 
 -- how a way back of a write is refused that the link failed: the write stands, at the position of its entry
 abbrev lost_way : World → Option Committed → Reply

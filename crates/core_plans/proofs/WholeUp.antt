@@ -10,7 +10,8 @@ use Rattle.core_plans.specs.Held.{IsOver}
 use Rattle.core_plans.specs.HeldReads.{ComesOfRead, DoesKeep, DoesLook, DoesReadStage, route_by, wanted_by}
 use Rattle.core_plans.specs.HeldWrites.{ComesOfWrite, CommitsBy, DoesWriteStage, RefusesOnWay, RefusesWrite, job_by, job_sender, sent_by}
 use Rattle.core_plans.specs.LedBy.{LedBy, Rules, led_by}
-use Rattle.core_plans.specs.Needs.{asked_of_read, down_of, first_down, last_leader, leader_to_pass, leaders_of_write, or_else, read_needs}
+use Rattle.core_plans.specs.Needs.{asked_of_read, down_of, first_down, leader_to_pass, leaders_of_write, or_else, read_needs}
+use Rattle.write_plan.specs.Plans.{last_leader}
 use Rattle.core_plans.specs.Needs.{tier_of_write, write_needs}
 use Rattle.core_plans.specs.WholeCalls.{CarriesOut, PassesStage}
 use Rattle.core_plans.specs.WholeLaws.{IsBegun, IsBegunWrite, IsForWantOfLeader, WholeCallIsUp, follower_of}

@@ -46,7 +46,8 @@ use Rattle.write_plan.specs.declared.results.WriteResult.TheVariants as came
 use Rattle.write_plan.specs.declared.stage.WriteStage.{WriteStage}
 use Rattle.write_plan.specs.declared.stage.WriteStage.TheVariants.{Commit, Inverse, End, Relay, Apply, Done}
 use Rattle.core_plans.specs.LedBy.{LedBy, Rules, led_by}
-use Rattle.core_plans.specs.Needs.{last_leader, leaders_of_write, tier_of_write, write_down}
+use Rattle.core_plans.specs.Needs.{leaders_of_write, tier_of_write, write_down}
+use Rattle.write_plan.specs.Plans.{last_leader}
 use Rattle.core_plans.specs.declared.leaders.Leaders.{Leaders}
 
 -- the client's write that a plan carries out, under its origin

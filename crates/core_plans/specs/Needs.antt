@@ -1,5 +1,5 @@
 -- Who has to be up for a stage of a plan, and which of them is down.
-use Rattle.std.specs.Prelude.{◌==◌, Bool, true, false, Option, Some, None, if◌then◌else◌, unwrap_or}
+use Rattle.std.specs.Prelude.{◌==◌, Bool, true, false, Option, Some, None, if◌then◌else◌}
 use Rattle.std.specs.Option.{option_map}
 use Rattle.core_model.specs.Stores.{region_store}
 use Rattle.core_plans.specs.declared.leaders.Leaders.{Leaders}
@@ -17,7 +17,7 @@ use Rattle.tao_base.specs.Writes.{write_shard}
 use Rattle.topology.specs.Choices.{chosen_leader, master_region, may_lead, preferred_leader}
 use Rattle.topology.specs.Config.{Settings}
 use Rattle.topology.specs.States.{NodeStates, is_up}
-use Rattle.write_plan.specs.Plans.{Writing, answered_passed, next_of}
+use Rattle.write_plan.specs.Plans.{Writing, answered_passed, last_leader, next_of}
 use Rattle.write_plan.specs.declared.committed.Committed.{Committed}
 use Rattle.write_plan.specs.declared.stage.WriteStage.{WriteStage}
 use Rattle.write_plan.specs.declared.stage.WriteStage.TheVariants.{Commit, Inverse, End, Relay, Apply, Done}
@@ -68,10 +68,6 @@ read_needs reads.Done p = no_needs
 -- the leader that committed a write
 abbrev pub committer_of : Writing → Option NodeName
 committer_of p = option_map (λ (c : Committed). c.leader) p.committed
-
--- the last leader on the way back to the follower: the one that the write passed, or else the one that committed it
-abbrev pub last_leader : Committed → NodeName
-last_leader c = unwrap_or c.passed c.leader
 
 -- who has to be up for the stage of a write. The leaders that commit and that merge are chosen among those that are up
 abbrev pub write_needs : WriteStage → Writing → Needs

@@ -1,6 +1,7 @@
 //! Who is chosen for the stages of a plan, and who has to be up for them.
 ghost use Rattle.std.specs.Prelude.{◌≡◌, None};
-ghost use Rattle.core_plans.specs.Needs.{asked_of_read, committer_of, down_of, first_down, last_leader, leader_to_pass, leaders_of_write, no_needs};
+ghost use Rattle.core_plans.specs.Needs.{asked_of_read, committer_of, down_of, first_down, leader_to_pass, leaders_of_write, no_needs};
+ghost use Rattle.write_plan.specs.Plans.{last_leader};
 ghost use Rattle.core_plans.specs.Needs.{read_down, tier_of_write, write_down, write_needs};
 ghost use Rattle.std.specs.Option.{option_map};
 ghost use Rattle.write_plan.specs.Plans.{next_of};
@@ -11,7 +12,7 @@ use core_steps::{Nodes, TierPlace};
 use node_name::NodeName;
 use read_plan::{ReadPlan, ReadStage};
 use topology::{Config, Topology};
-use write_plan::{Committed, WritePlan, WriteStage};
+use write_plan::{WritePlan, WriteStage, last_leader};
 
 /// The nodes that have to be up for a stage: the one that acts, where it isn't chosen for the stage among those that are, and the one that sends to it.
 #[derive(Clone, Copy)]
@@ -119,13 +120,6 @@ fn committer_of(plan: &WritePlan) -> Option<NodeName>
         Some(committed) => Some(committed.leader),
         None => None,
     }
-}
-
-/// The last leader on the way back to the follower: the one that the write passed, or else the one that committed it.
-pub(crate) fn last_leader(committed: &Committed) -> NodeName
-    ensures { result ≡ last_leader committed.now }
-{
-    committed.passed.unwrap_or(committed.leader)
 }
 
 /// The last leader on the way back of a write that was committed.

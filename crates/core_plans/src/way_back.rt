@@ -1,12 +1,11 @@
 //! The stages `relay` and `apply` of held writes: the way back, to the leader that the write passed and then to its follower.
-ghost use Rattle.std.specs.Prelude.{◌≡◌, ◌<◌, Bool, Contains, IfErr, IfSome, IsSome, None, OnErr, OnOk, Some, true};
+ghost use Rattle.std.specs.Prelude.{◌≡◌, ◌<◌, Bool, Contains, IfErr, IfSome, IsSome, OnErr, OnOk, Some, true};
 ghost use Rattle.core_model.specs.Consistent.{GoesOn, HaveReached, IsFleetOf};
 ghost use Rattle.core_model.specs.Fleet.{leader_names};
 ghost use Rattle.core_model.specs.Serving.{IsFollowerFor};
 ghost use Rattle.core_nodes.specs.Settling.{IsLaterLink};
 ghost use Rattle.core_plans.specs.HeldWrites.{DoesWriteStage, IsAnswerTo, IsWriteUnderWay, call_of_plan};
 ghost use Rattle.core_plans.specs.LedBy.{rules_of};
-ghost use Rattle.core_plans.specs.Needs.{last_leader};
 ghost use Rattle.core_steps.specs.Relays.{LeaderRelays};
 ghost use Rattle.core_steps.specs.Routes.{FailsCarry};
 ghost use Rattle.core_steps.specs.World.{world};
@@ -16,64 +15,18 @@ ghost use Rattle.tao_keeper.specs.KeeperState.{KeeperState};
 ghost use Rattle.tao_keeper.specs.Table.{Tables};
 ghost use Rattle.tao_link.specs.Shown.{after_carry};
 ghost use Rattle.tao_schema.specs.Schema.{types_of};
-ghost use Rattle.write_plan.specs.Plans.{answered_entry, answered_passed, next_of, when_of};
+ghost use Rattle.write_plan.specs.Plans.{answered_entry, next_of, when_of};
 ghost use Rattle.write_plan.specs.declared.stage.WriteStage.TheVariants as stage;
 
-use crate::needs::last_leader;
 use core_steps::{Nodes, Route, ShardNote};
-use node_name::NodeName;
 use replies::{Refusal, Reply, StoreRefused};
 use shard_log::Note;
 use store_replies::link_fault;
 use tao_link::{Link, LinkFailed};
 use topology::Config;
-use write_plan::{WritePlan, WriteResult};
-
-/// The leader that a write passed on the way to its commit.
-fn passed_of(plan: &WritePlan) -> NodeName
-    requires { IsSome (answered_passed plan.now) }
-    ensures { answered_passed plan.now ≡ Some result }
-{
-    match plan.passed() {
-        Some(leader) => leader,
-        None => unreachable!(),
-    }
-}
-
-/// The leader that committed a write.
-pub(crate) fn committer(plan: &WritePlan) -> NodeName
-    requires { IsSome plan.now.committed }
-    ensures { IfSome plan.now.committed (λ c. result ≡ c.leader) }
-{
-    match plan.committed() {
-        Some(committed) => committed.leader,
-        None => unreachable!(),
-    }
-}
-
-/// The last leader on the way back of a write to its follower.
-fn last_before(plan: &WritePlan) -> NodeName
-    requires { IsSome plan.now.committed }
-    ensures { IfSome plan.now.committed (λ c. result ≡ last_leader c) }
-{
-    match plan.committed() {
-        Some(committed) => last_leader(committed),
-        None => unreachable!(),
-    }
-}
-
-/// The note that came with the answer of a plan's commit for the leader that the write passed to meet.
-fn relay_of(plan: &mut WritePlan) -> Note
-    requires committed { IsSome plan.old.committed }
-    requires relay { IfSome plan.old.committed (λ c. plan.old.relay ≡ Some c.wrote.note) }
-    ensures note { IfSome plan.old.committed (λ c. result ≡ c.wrote.note) }
-    ensures rest { plan.new ≡ record plan.old { relay = None } }
-{
-    match plan.relay() {
-        Some(note) => note,
-        None => unreachable!(),
-    }
-}
+use write_plan::{
+    WritePlan, WriteResult, committer, last_before, passed_of, relay_note_of, spare_note_of,
+};
 
 /// Carries what was committed to the leader that the write passed, which the route names as `follower`, and lets that take it.
 fn carry_past<L: Link>(
@@ -142,23 +95,10 @@ pub(crate) fn relay_stage<L: Link>(
         follower: passed_of(plan),
         leader: committer(plan),
     };
-    let note = relay_of(plan);
+    let note = relay_note_of(plan);
     let outcome = carry_past(nodes, config, link, route, plan, note);
     let hops = link.carries().saturating_sub(carries);
     plan.take(WriteResult::Relay(outcome), hops);
-}
-
-/// The note that came with the answer of a plan's commit for its follower to meet.
-fn spare_of(plan: &mut WritePlan) -> Note
-    requires committed { IsSome plan.old.committed }
-    requires spare { IfSome plan.old.committed (λ c. plan.old.spare ≡ Some c.wrote.note) }
-    ensures note { IfSome plan.old.committed (λ c. result ≡ c.wrote.note) }
-    ensures rest { plan.new ≡ record plan.old { spare = None } }
-{
-    match plan.spare() {
-        Some(note) => note,
-        None => unreachable!(),
-    }
 }
 
 /// Carries what was committed back, and lets the follower take it.
@@ -228,7 +168,7 @@ pub(crate) fn apply_stage<L: Link>(
         follower: plan.follower(),
         leader: last_before(plan),
     };
-    let note = spare_of(plan);
+    let note = spare_note_of(plan);
     let outcome = carry_back(nodes, config, link, route, plan, note);
     let hops = link.carries().saturating_sub(carries);
     plan.take(WriteResult::Apply(outcome), hops);

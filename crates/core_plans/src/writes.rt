@@ -18,7 +18,7 @@ ghost use Rattle.write_plan.specs.declared.stage.WriteStage.TheVariants as stage
 
 use crate::committing::commit_stage;
 use crate::needs::{tier_of_write, write_down};
-use crate::way_back::{apply_stage, committer, relay_stage};
+use crate::way_back::{apply_stage, relay_stage};
 use core_model::ShardJob;
 use core_steps::{JobSender, Nodes};
 use node_name::NodeName;
@@ -26,7 +26,7 @@ use replies::{NodeRefused, Refusal, Reply};
 use tao_keeper::Keeper;
 use tao_link::Link;
 use topology::Config;
-use write_plan::{WritePlan, WriteResult, WriteStage};
+use write_plan::{WritePlan, WriteResult, WriteStage, committer};
 
 /// The stage `inverse`.
 fn inverse_stage<K: Keeper, L: Link>(

@@ -14,7 +14,8 @@ use Rattle.core_plans.proofs.WholeRuns.{OfWrite, write_keeps}
 use Rattle.core_plans.specs.HeldWrites.{ComesOfWrite, CommitsBy, DoesWriteStage, IsAnswerTo, MergesHeld, RefusesOnWay, RefusesWrite, call_of_plan, job_by}
 use Rattle.core_plans.specs.HeldWrites.{job_sender}
 use Rattle.core_plans.specs.LedBy.{LedBy, Rules, led_by}
-use Rattle.core_plans.specs.Needs.{last_leader, leader_to_pass, leaders_of_write, tier_of_write}
+use Rattle.core_plans.specs.Needs.{leader_to_pass, leaders_of_write, tier_of_write}
+use Rattle.write_plan.specs.Plans.{last_leader}
 use Rattle.core_plans.specs.WholeCalls.{CarriesOut, PassesStage}
 use Rattle.core_plans.specs.declared.held.HeldPlan.{HeldPlan}
 use Rattle.core_plans.specs.declared.held.HeldPlan.TheVariants.{Read, Write}

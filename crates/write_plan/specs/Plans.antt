@@ -144,6 +144,10 @@ answered_job p = option_and_then (λ c. c.wrote.job) p.committed
 abbrev pub answered_passed : Writing → Option NodeName
 answered_passed p = option_and_then (λ c. c.passed) p.committed
 
+-- the last leader on the way back to the follower: the one that the write passed, or else the one that committed it
+abbrev pub last_leader : Committed → NodeName
+last_leader c = unwrap_or c.passed c.leader
+
 -- whether a refusal comes after an entry stands, and where it does
 abbrev pub when_of : Option Entry → When
 when_of None = Before

@@ -15,9 +15,11 @@ mod plan;
 mod progress;
 mod results;
 mod stage;
+mod way_back;
 
 pub use committed::{Committed, kind_said};
 pub use plan::{EndedWrite, WritePlan};
 pub use progress::{OtherEnd, WayBack};
 pub use results::{CommitAnswer, LeftOpen, WriteResult};
 pub use stage::WriteStage;
+pub use way_back::{committer, last_before, last_leader, passed_of, relay_note_of, spare_note_of};

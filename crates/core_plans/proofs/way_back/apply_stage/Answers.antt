@@ -21,29 +21,29 @@ use Rattle.write_plan.specs.declared.results.WriteResult.TheVariants as came
 pub last_before-requires : goal.last_before-requires
 last_before-requires g c = (at_apply c.args.plan.now c.requires.stage).2
 
-pub spare_of-note-requires-clause-committed : goal.spare_of-note-requires-clause-committed
-spare_of-note-requires-clause-committed g c = (at_apply c.args.plan.now c.requires.stage).2
+pub spare_note_of-note-requires-clause-committed : goal.spare_note_of-note-requires-clause-committed
+spare_note_of-note-requires-clause-committed g c = (at_apply c.args.plan.now c.requires.stage).2
 
 pub carry_back-outcome-requires-clause-follower : goal.carry_back-outcome-requires-clause-follower
 carry_back-outcome-requires-clause-follower g c =
-    subst (λ (m : Writing). IsFollowerFor c.args.config.now (write_shard m.write) m.follower) (sym c.spare_of-note.ensures.rest) c.requires.follower
+    subst (λ (m : Writing). IsFollowerFor c.args.config.now (write_shard m.write) m.follower) (sym c.spare_note_of-note.ensures.rest) c.requires.follower
 
 pub carry_back-outcome-requires-clause-apply : goal.carry_back-outcome-requires-clause-apply
 carry_back-outcome-requires-clause-apply g c =
     let stores = c.args.nodes.now.fleet.stores in
-    subst (λ (m : Writing). IfSome m.committed (λ a. CanBeApplied (call_of_plan m) a.wrote stores)) (sym c.spare_of-note.ensures.rest)
+    subst (λ (m : Writing). IfSome m.committed (λ a. CanBeApplied (call_of_plan m) a.wrote stores)) (sym c.spare_note_of-note.ensures.rest)
     (IfSome_then c.args.plan.now.committed c.requires.answer (λ a answer. answer.apply))
 
 pub carry_back-outcome-requires-clause-route : goal.carry_back-outcome-requires-clause-route
-carry_back-outcome-requires-clause-route g c = c.follower.ensures ∙ ap (λ (m : Writing). m.follower) (sym c.spare_of-note.ensures.rest)
+carry_back-outcome-requires-clause-route g c = c.follower.ensures ∙ ap (λ (m : Writing). m.follower) (sym c.spare_note_of-note.ensures.rest)
 
 pub carry_back-outcome-requires-clause-committed : goal.carry_back-outcome-requires-clause-committed
 carry_back-outcome-requires-clause-committed g c =
-    subst (λ (m : Writing). IsSome m.committed) (sym c.spare_of-note.ensures.rest) (at_apply c.args.plan.now c.requires.stage).2
+    subst (λ (m : Writing). IsSome m.committed) (sym c.spare_note_of-note.ensures.rest) (at_apply c.args.plan.now c.requires.stage).2
 
 pub carry_back-outcome-requires-clause-note : goal.carry_back-outcome-requires-clause-note
 carry_back-outcome-requires-clause-note g c =
-    subst (λ (m : Writing). IfSome m.committed (λ a. c.spare_of-note.result ≡ a.wrote.note)) (sym c.spare_of-note.ensures.rest) c.spare_of-note.ensures.note
+    subst (λ (m : Writing). IfSome m.committed (λ a. c.spare_note_of-note.result ≡ a.wrote.note)) (sym c.spare_note_of-note.ensures.rest) c.spare_note_of-note.ensures.note
 
 pub returns : goal.returns
 returns g c =
@@ -51,8 +51,8 @@ returns g c =
     let s = c.args.config.now in
     let last = c.last_before.result in
     let p = c.args.plan.now in
-    let mid = c.spare_of-note.new.plan in
-    let is = c.spare_of-note.ensures.rest in
+    let mid = c.spare_note_of-note.new.plan in
+    let is = c.spare_note_of-note.ensures.rest in
     let came_back = c.carry_back-outcome in
     let back = came_back.ensures in
     let outcome = came_back.result in

@@ -23,11 +23,11 @@ passed_of-requires g c = (at_relay c.args.plan.now c.requires.stage).passed
 pub committer-requires : goal.committer-requires
 committer-requires g c = (at_relay c.args.plan.now c.requires.stage).answered
 
-pub relay_of-note-requires-clause-committed : goal.relay_of-note-requires-clause-committed
-relay_of-note-requires-clause-committed g c = (at_relay c.args.plan.now c.requires.stage).answered
+pub relay_note_of-note-requires-clause-committed : goal.relay_note_of-note-requires-clause-committed
+relay_note_of-note-requires-clause-committed g c = (at_relay c.args.plan.now c.requires.stage).answered
 
-pub relay_of-note-requires-clause-relay : goal.relay_of-note-requires-clause-relay
-relay_of-note-requires-clause-relay g c =
+pub relay_note_of-note-requires-clause-relay : goal.relay_note_of-note-requires-clause-relay
+relay_note_of-note-requires-clause-relay g c =
     let p = c.args.plan.now in
     relay_now p.committed p.relay (at_relay p c.requires.stage).passed c.requires.relay
 
@@ -39,21 +39,21 @@ carry_past-outcome-requires-clause-leader g c =
 
 pub carry_past-outcome-requires-clause-here : goal.carry_past-outcome-requires-clause-here
 carry_past-outcome-requires-clause-here g c =
-    subst (λ (m : Writing). write_shard m.write < c.args.config.now.shards) (sym c.relay_of-note.ensures.rest) c.requires.here
+    subst (λ (m : Writing). write_shard m.write < c.args.config.now.shards) (sym c.relay_note_of-note.ensures.rest) c.requires.here
 
 pub carry_past-outcome-requires-clause-apply : goal.carry_past-outcome-requires-clause-apply
 carry_past-outcome-requires-clause-apply g c =
     let stores = c.args.nodes.now.fleet.stores in
-    subst (λ (m : Writing). IfSome m.committed (λ a. CanBeApplied (call_of_plan m) a.wrote stores)) (sym c.relay_of-note.ensures.rest)
+    subst (λ (m : Writing). IfSome m.committed (λ a. CanBeApplied (call_of_plan m) a.wrote stores)) (sym c.relay_note_of-note.ensures.rest)
     (IfSome_then c.args.plan.now.committed c.requires.answer (λ a answer. answer.apply))
 
 pub carry_past-outcome-requires-clause-committed : goal.carry_past-outcome-requires-clause-committed
 carry_past-outcome-requires-clause-committed g c =
-    subst (λ (m : Writing). IsSome m.committed) (sym c.relay_of-note.ensures.rest) (at_relay c.args.plan.now c.requires.stage).answered
+    subst (λ (m : Writing). IsSome m.committed) (sym c.relay_note_of-note.ensures.rest) (at_relay c.args.plan.now c.requires.stage).answered
 
 pub carry_past-outcome-requires-clause-note : goal.carry_past-outcome-requires-clause-note
 carry_past-outcome-requires-clause-note g c =
-    subst (λ (m : Writing). IfSome m.committed (λ a. c.relay_of-note.result ≡ a.wrote.note)) (sym c.relay_of-note.ensures.rest) c.relay_of-note.ensures.note
+    subst (λ (m : Writing). IfSome m.committed (λ a. c.relay_note_of-note.result ≡ a.wrote.note)) (sym c.relay_note_of-note.ensures.rest) c.relay_note_of-note.ensures.note
 
 pub returns : goal.returns
 returns g c =
@@ -62,8 +62,8 @@ returns g c =
     let route = way_past c.committer.result c.passed_of.result in
     let p = c.args.plan.now in
     let at = at_relay p c.requires.stage in
-    let mid = c.relay_of-note.new.plan in
-    let is = c.relay_of-note.ensures.rest in
+    let mid = c.relay_note_of-note.new.plan in
+    let is = c.relay_note_of-note.ensures.rest in
     let came_past = c.carry_past-outcome in
     let past = came_past.ensures in
     let outcome = came_past.result in

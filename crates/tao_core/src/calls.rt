@@ -25,7 +25,7 @@ use read_plan::ReadPlan;
 use replies::{CallReply, Reply};
 use request_check::{CheckedCall, CheckedRead, CheckedWrite};
 use store_replies::out_of_memory;
-use tao_base::OutOfMemory;
+use tao_base::{Origin, OutOfMemory};
 use tao_keeper::Keeper;
 use tao_link::Link;
 use topology::{Config, Topology};

@@ -1,0 +1,6 @@
+mod OpenedCluster
+mod OpenedNodes
+mod OpenedNotes
+mod OpenedOver
+mod OpenedStores
+mod Pushed

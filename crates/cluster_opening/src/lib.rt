@@ -1,0 +1,12 @@
+//! The opening of a cluster whose nodes lie behind locks.
+//!
+//! What it promises. A cluster is opened as a core is, over one keeper a store, and refused for the same causes, with the keepers handed back in their
+//! order. Every node and store that is then locked keeps what its type says.
+//!
+//! The contracts that say so: `Opened::open`, `named`.
+#![tactic(auto)]
+
+mod opening;
+mod placed;
+
+pub use opening::{OpenFail, Opened};

@@ -1,0 +1,4 @@
+pub mod Begun
+pub mod Nodes
+pub mod Passes
+pub mod Replies

@@ -1,4 +1,0 @@
-use Rattle.shared_tiers.proofs.cluster.Cluster.ask_stage.Given as goal
-
-abbrev pub ghost-take_asked : goal.ghost-take_asked
-ghost-take_asked g a = g.begun

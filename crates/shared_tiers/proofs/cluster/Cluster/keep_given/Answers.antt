@@ -1,7 +1,0 @@
-use Rattle.shared_tiers.proofs.TakenSteps.{steps_handed}
-use Rattle.shared_tiers.proofs.cluster.Cluster.keep_given.Goals as goal
-
-pub returns : goal.returns
-returns g c =
-    steps_handed g.J.Sharing.making g.J.Logs.log g.begun c.take_kept.new.read.seen c.args.read.now.plan c.fill.new.self c.take_kept.new.read.plan
-    c.in-Some.ensures.handed c.take_kept.ensures

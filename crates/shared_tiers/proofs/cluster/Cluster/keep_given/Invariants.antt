@@ -1,4 +1,0 @@
-use Rattle.shared_tiers.proofs.cluster.Cluster.keep_given.Given as goal
-
-abbrev pub ghost-take_kept : goal.ghost-take_kept
-ghost-take_kept g a = g.begun

@@ -1,4 +1,0 @@
-use Rattle.shared_tiers.proofs.cluster.Cluster.look_first.Given as goal
-
-abbrev pub ghost-take_look : goal.ghost-take_look
-ghost-take_look g a = g.begun

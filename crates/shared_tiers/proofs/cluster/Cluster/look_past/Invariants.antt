@@ -1,4 +1,0 @@
-use Rattle.shared_tiers.proofs.cluster.Cluster.look_past.Given as goal
-
-abbrev pub ghost-take_ask : goal.ghost-take_ask
-ghost-take_ask g a = g.begun

@@ -1,4 +1,0 @@
-use Rattle.shared_tiers.proofs.taking.take_look.Given as goal
-
-abbrev pub ghost-take_found : goal.ghost-take_found
-ghost-take_found g a = g.begun

@@ -1,7 +1,0 @@
-use Rattle.shared_tiers.proofs.TakenSteps.{out_steps}
-use Rattle.shared_tiers.proofs.taking.take_out.Goals as goal
-
-pub returns-in-Ok : goal.returns-in-Ok
-returns-in-Ok g c =
-    out_steps g.J.Sharing.making g.J.Logs.log g.begun c.args.read.now.seen c.args.read.now.plan c.take.new.self c.in-Ok.mastered.out
-    c.args.hops c.in-Ok.mastered.store c.requires.1.0 (rw c.in-Ok.is at c.requires.1.1.1.0) c.take.ensures

@@ -1,0 +1,20 @@
+use Rattle.std.proofs.Common.{◌≡◌, Some, subst}
+use Rattle.std.specs.Prelude.{slice_get}
+use Rattle.core_model.specs.Asked.{client_call}
+use Rattle.locked_nodes.proofs.Seeing.{room_apart}
+use Rattle.tao_base.specs.declared.entry.Origin.TheVariants.{Client}
+use Rattle.cluster_writes.proofs.WholeWrites.{write_done}
+use Rattle.cluster_writes.specs.Open.{on_cluster}
+use Rattle.cluster_writes.proofs.writes.write.Goals as goal
+
+pub end_write-requires-clause-pass : goal.end_write-requires-clause-pass
+end_write-requires-clause-pass g c =
+    (room_apart g.J.Sharing.making g.J.Logs.log c.args.pass.now c.prepare.new.pass c.requires.pass c.prepare.ensures.same).0
+
+pub returns-clause-replies : goal.returns-clause-replies
+returns-clause-replies g c =
+    write_done (on_cluster g.K.Keeper.TELLS g.K.Keeper.state g.J.Sharing.making g.J.Logs.log)
+    (client_call (Client c.args.call.session c.args.call.seq) c.args.call.write) c.args.pass.now c.prepare.new.pass c.end_write.new.pass
+    c.prepare.ensures.same c.in-Ok.seen (subst (λ n. slice_get c.args.pass.now.notes n ≡ Some c.in-Ok.seen) c.shard-shard.ensures c.in-Ok.ensures.note)
+    c.in-Some.plan c.in-Some.ensures c.run_write-write.result (g.L.Link.shown c.args.link.now) (g.L.Link.shown c.run_write-write.new.link)
+    c.run_write-write.ensures.write c.end_write.result c.end_write.ensures.replies

@@ -1,0 +1,3 @@
+pub mod Committed
+pub mod LeftOpen
+pub mod Origins

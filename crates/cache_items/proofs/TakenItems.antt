@@ -6,7 +6,7 @@ use Rattle.std.specs.Map.{remove_entry, set_value}
 use Rattle.tao_base.specs.declared.entry.Change.{Change}
 use Rattle.tao_base.specs.declared.id.Key.{Key}
 use Rattle.tao_base.specs.Keys.{same_key}
-use Rattle.shard_log.specs.View.{View}
+use Rattle.served_shards.specs.shard_log.View.{View}
 use Rattle.changeset.specs.Changes.{seen_change}
 use Rattle.cache_items.specs.declared.item.Item.{Item}
 use Rattle.cache_items.specs.Node.{Items, item_at}

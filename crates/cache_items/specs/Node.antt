@@ -5,7 +5,7 @@ use Rattle.std.specs.Option.{option_map_or}
 use Rattle.tao_base.specs.declared.entry.Entry.{Entry}
 use Rattle.tao_base.specs.declared.id.Key.{Key}
 use Rattle.tao_base.specs.Keys.{key_shard, same_key}
-use Rattle.shard_log.specs.View.{View}
+use Rattle.served_shards.specs.shard_log.View.{View}
 use Rattle.ask_table.specs.Asks.{Asks, asks_of, with_ask, with_floor, without_ask, without_asks}
 use Rattle.maint_msg.specs.KeyVersions.{keys_of}
 use Rattle.maint_msg.specs.Maints.{SeenMaint}

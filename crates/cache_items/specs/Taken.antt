@@ -4,10 +4,10 @@ use Rattle.std.specs.Map.{set_value}
 use Rattle.tao_base.specs.declared.entry.Change.{Change}
 use Rattle.tao_base.specs.EdgeTypes.{EdgeTypes}
 use Rattle.tao_base.specs.Keys.{key_shard, same_key}
-use Rattle.graph_model.specs.Log.{object_after}
+use Rattle.changeset.specs.graph_model.Log.{object_after}
 use Rattle.ask_table.specs.Asks.{with_floor}
-use Rattle.list_prefix.specs.Changes.{prefix_after}
-use Rattle.tao_schema.specs.Schema.{key_bound}
+use Rattle.sealed_item.specs.list_prefix.Changes.{prefix_after}
+use Rattle.sealed_item.specs.tao_schema.Schema.{key_bound}
 use Rattle.sealed_item.specs.declared.content.Content.{Content}
 use Rattle.sealed_item.specs.declared.content.Content.TheVariants.{Object as ObjectIs, List as ListIs}
 use Rattle.changeset.specs.Changes.{SeenChange}

@@ -3,7 +3,7 @@ use Rattle.std.specs.Prelude.{◌≡◌, ℕ, List, [], ◌∷◌}
 use Rattle.tao_base.specs.EdgeTypes.{EdgeTypes}
 use Rattle.tao_base.specs.declared.entry.Entry.{Entry}
 use Rattle.tao_base.specs.declared.entry.Touch.{Touch}
-use Rattle.shard_log.specs.View.{View}
+use Rattle.served_shards.specs.shard_log.View.{View}
 use Rattle.changeset.specs.Changes.{change_by}
 use Rattle.maint_msg.specs.KeyVersions.{keys_of}
 use Rattle.served_shards.specs.Served.{changed_at, marking}

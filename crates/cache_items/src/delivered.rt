@@ -2,9 +2,9 @@
 ghost use Rattle.std.specs.Prelude.{◌≡◌};
 
 use crate::item::Item;
-use list_prefix::Prefix;
 use maint_msg::KeyVersion;
 use sealed_item::Content;
+use sealed_item::list_prefix::Prefix;
 use std::alloc::Global;
 use std::marker::Model;
 use tao_base::Key;

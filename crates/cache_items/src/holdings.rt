@@ -8,7 +8,7 @@ ghost use Rattle.lru.specs.LruCache.{last_entry, lru_cache, promoted, put_entrie
 ghost use Rattle.ask_table.specs.Asks.{IsTable, is_full, with_ask, with_floor};
 ghost use Rattle.tao_base.specs.Queries.{query_key, query_shard};
 ghost use Rattle.tao_base.specs.Keys.{key_shard, same_key};
-ghost use Rattle.tao_schema.specs.Schema.{types_of};
+ghost use Rattle.sealed_item.specs.tao_schema.Schema.{types_of};
 ghost use Rattle.cache_items.specs.Delivered.{AddsRow, AreSome, dropped_lists, row_of, stale_row};
 ghost use Rattle.served_shards.specs.Begun.{AreNotesOf, AreReached, begun_at};
 ghost use Rattle.cache_items.specs.Node.{empty_node, emptied, caught_up, delivered, drop_count, dropped, with_ended_ask, item_at, is_stale as is_stale_word};
@@ -24,7 +24,7 @@ ghost use Rattle.cache_items.specs.Taken.{ChangesItems, TakesChange, with_change
 ghost use Rattle.cache_items.specs.TakenEntry.{AppliesEntry, TakesEntry, TakesTouches};
 ghost use Rattle.maint_msg.specs.KeyVersions.{key_version, keys_of};
 ghost use Rattle.changeset.specs.Changes.{change_by, seen_change};
-ghost use Rattle.shard_log.specs.View.{View};
+ghost use Rattle.served_shards.specs.shard_log.View.{View};
 
 use crate::delivered::{Delivered, DroppedLists};
 use crate::item::Item;
@@ -35,13 +35,13 @@ use changeset::Changeset;
 use lru::LruCache;
 use maint_msg::{KeyVersion, Maint};
 use sealed_item::Fill;
+use sealed_item::tao_schema::Schema;
 use served_shards::ServedShards;
-use shard_log::Note;
+use served_shards::shard_log::Note;
 use std::alloc::Global;
 use std::marker::Model;
 use std::num::NonZeroUsize;
 use tao_base::{Answer, Change, Entry, Key, OutOfMemory, Query, Touch};
-use tao_schema::Schema;
 
 /// The items of a node, the most recently used first, with its asks and the shards that it serves.
 #[derive(Drop)]

@@ -1,14 +1,14 @@
 //! What a node holds at a key.
 ghost use Rattle.std.specs.Prelude.{◌≡◌, ◌<◌, ◌+◌, IfOk, MatchBool, OnErr, OnOk};
-ghost use Rattle.tao_schema.specs.Schema.{types_of};
+ghost use Rattle.sealed_item.specs.tao_schema.Schema.{types_of};
 ghost use Rattle.cache_items.specs.HandedOn.{IsFrontItem};
 ghost use Rattle.cache_items.specs.Look.{item_look};
 ghost use Rattle.cache_items.specs.Taken.{StaysBy, changed_content};
 
 use crate::look::Look;
 use sealed_item::Content;
+use sealed_item::tao_schema::Schema;
 use tao_base::{Change, Object, OutOfMemory, Query};
-use tao_schema::Schema;
 
 /// What was found at a key, which is exact at the version.
 #[derive(Drop)]

@@ -16,8 +16,11 @@ mod item;
 mod look;
 mod unsealed;
 
+pub use changeset;
 pub use delivered::{Delivered, DroppedList, DroppedLists};
 pub use holdings::Holdings;
 pub use item::Item;
 pub use look::{Kept, Look};
+pub use maint_msg;
+pub use sealed_item;
 pub use unsealed::Unsealed;

@@ -1,6 +1,6 @@
 //! What a fill of a held item is made of.
 use sealed_item::{Content, Fill};
-use shard_log::Note;
+use served_shards::shard_log::Note;
 use std::marker::Model;
 use tao_base::Key;
 

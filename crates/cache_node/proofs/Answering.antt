@@ -6,11 +6,11 @@ use Rattle.tao_base.specs.EdgeTypes.{EdgeTypes}
 use Rattle.tao_base.specs.declared.query.Query.{Query}
 use Rattle.tao_base.specs.Queries.{query_key}
 use Rattle.tao_base.specs.Keys.{key_shard}
-use Rattle.sealed_item.specs.Fills.{IsExactContent, IsSealed, SealedItem}
-use Rattle.sealed_item.proofs.Deciding.{content_answers}
+use Rattle.cache_items.specs.sealed_item.Fills.{IsExactContent, IsSealed, SealedItem}
+use Rattle.cache_items.proofs.sealed_item_lemmas.Deciding.{content_answers}
 use Rattle.cache_items.specs.declared.item.Item.{Item}
 use Rattle.cache_items.specs.declared.look.Look.{Look}
-use Rattle.sealed_item.specs.Decided.{IsExactAnswer, content_answer, content_decides}
+use Rattle.cache_items.specs.sealed_item.Decided.{IsExactAnswer, content_answer, content_decides}
 use Rattle.cache_node.specs.Answered.{LookAnswers, ViewAnswers}
 use Rattle.cache_items.specs.Look.{look_of}
 use Rattle.cache_items.specs.Node.{Node, item_at}

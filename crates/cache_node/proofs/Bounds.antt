@@ -8,11 +8,11 @@ use Rattle.tao_base.specs.declared.entry.Entry.{Entry}
 use Rattle.tao_base.specs.declared.id.Key.{Key}
 use Rattle.tao_base.specs.declared.id.Key.TheVariants.{Obj, List as Assocs}
 use Rattle.tao_base.specs.Keys.{same_key}
-use Rattle.list_prefix.proofs.Exact.{after_bounded}
-use Rattle.changeset.specs.Changes.{SeenChange}
-use Rattle.maint_msg.specs.KeyVersions.{keys_of}
-use Rattle.sealed_item.specs.declared.content.Content.{Content}
-use Rattle.sealed_item.specs.declared.content.Content.TheVariants.{Object as ObjectIs, List as ListIs}
+use Rattle.cache_items.proofs.list_prefix_lemmas.Exact.{after_bounded}
+use Rattle.cache_items.specs.changeset.Changes.{SeenChange}
+use Rattle.cache_items.specs.maint_msg.KeyVersions.{keys_of}
+use Rattle.cache_items.specs.sealed_item.declared.content.Content.{Content}
+use Rattle.cache_items.specs.sealed_item.declared.content.Content.TheVariants.{Object as ObjectIs, List as ListIs}
 use Rattle.cache_node.proofs.Keys.{held_fewer, held_kept, held_promoted, held_set, held_take}
 use Rattle.cache_node.proofs.Processing.{distinct_dropped, held_dropped}
 use Rattle.cache_items.specs.declared.item.Item.{Item}
@@ -22,7 +22,7 @@ use Rattle.cache_items.specs.Node.{Items, Node, caught_up, item_at, processed}
 use Rattle.tao_schema.specs.Schema.{key_bound}
 use Rattle.cache_items.specs.Taken.{TakesChange, changed_content, changed_item}
 use Rattle.cache_node.specs.Within.{AreFewer, AreWithin}
-use Rattle.sealed_item.specs.Decided.{IsWithinBound}
+use Rattle.cache_items.specs.sealed_item.Decided.{IsWithinBound}
 
 pub items_are_fewer : (items : Items) (distinct : IsDistinct same_key (keys_held items)) → ItemsAreFewer items distinct
 items_are_fewer items distinct = record {

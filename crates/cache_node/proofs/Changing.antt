@@ -13,13 +13,13 @@ use Rattle.tao_base.specs.Keys.{key_shard, same_key}
 use Rattle.graph_model.specs.Log.{IsTouchOf, version}
 use Rattle.graph_model.specs.Soundness.{IsSound}
 use Rattle.shard_log.specs.View.{longer_view}
-use Rattle.list_prefix.proofs.Exact.{stays_exact}
-use Rattle.list_prefix.specs.Changes.{prefix_after}
-use Rattle.changeset.proofs.ChangeLemmas.{touches_stay}
-use Rattle.changeset.specs.Changes.{IsOneTouch, SeenChange, own_touch}
-use Rattle.sealed_item.specs.Fills.{IsExactContent}
-use Rattle.sealed_item.specs.declared.content.Content.{Content}
-use Rattle.sealed_item.specs.declared.content.Content.TheVariants.{Object as ObjectIs, List as ListIs}
+use Rattle.cache_items.proofs.list_prefix_lemmas.Exact.{stays_exact}
+use Rattle.cache_items.specs.list_prefix.Changes.{prefix_after}
+use Rattle.cache_items.proofs.changeset_lemmas.ChangeLemmas.{touches_stay}
+use Rattle.cache_items.specs.changeset.Changes.{IsOneTouch, SeenChange, own_touch}
+use Rattle.cache_items.specs.sealed_item.Fills.{IsExactContent}
+use Rattle.cache_items.specs.sealed_item.declared.content.Content.{Content}
+use Rattle.cache_items.specs.sealed_item.declared.content.Content.TheVariants.{Object as ObjectIs, List as ListIs}
 use Rattle.cache_node.proofs.Keys.{held_fewer, held_set}
 use Rattle.cache_node.proofs.Raised.{raised_is_true}
 use Rattle.cache_node.proofs.ServedAt.{changed_here, told_before}

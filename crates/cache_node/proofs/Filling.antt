@@ -19,10 +19,10 @@ use Rattle.low_water.specs.Marks.{is_marked, top_of}
 use Rattle.ask_table.specs.declared.ask.Ask.{Ask}
 use Rattle.ask_table.specs.Asks.{Asks, without_ask}
 use Rattle.ask_table.specs.Open.{is_numbered}
-use Rattle.sealed_item.proofs.FillLemmas.{fill_stays}
-use Rattle.sealed_item.specs.Fills.{IsExactContent, IsFill, IsSealed, SealedItem}
-use Rattle.sealed_item.specs.declared.content.Content.{Content}
-use Rattle.sealed_item.specs.declared.content.Content.TheVariants.{Object as ObjectIs, List as ListIs}
+use Rattle.cache_items.proofs.sealed_item_lemmas.FillLemmas.{fill_stays}
+use Rattle.cache_items.specs.sealed_item.Fills.{IsExactContent, IsFill, IsSealed, SealedItem}
+use Rattle.cache_items.specs.sealed_item.declared.content.Content.{Content}
+use Rattle.cache_items.specs.sealed_item.declared.content.Content.TheVariants.{Object as ObjectIs, List as ListIs}
 use Rattle.cache_node.proofs.Keys.{held_kept}
 use Rattle.cache_node.proofs.Marked.{version_is}
 use Rattle.cache_node.proofs.Raised.{raised_is_true}

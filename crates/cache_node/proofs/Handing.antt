@@ -12,8 +12,8 @@ use Rattle.tao_base.specs.declared.id.Key.{Key}
 use Rattle.tao_base.specs.declared.query.Query.{Query}
 use Rattle.shard_log.specs.View.{View}
 use Rattle.lru.specs.LruCache.{promoted}
-use Rattle.sealed_item.proofs.Deciding.{fronts_decide}
-use Rattle.sealed_item.specs.Fills.{IsFill, IsSealed, SealedItem}
+use Rattle.cache_items.proofs.sealed_item_lemmas.Deciding.{fronts_decide}
+use Rattle.cache_items.specs.sealed_item.Fills.{IsFill, IsSealed, SealedItem}
 use Rattle.served_shards.specs.Meetings.{MeetsAt}
 use Rattle.served_shards.specs.Served.{ServedShard, log_at, low_at, served_at, top_at, view_at}
 use Rattle.cache_items.specs.declared.item.Item.{Item}

@@ -20,10 +20,10 @@ use Rattle.shard_log.specs.View.{Grows, LogName, View, longer_view}
 use Rattle.lru.specs.LruCache.{promoted}
 use Rattle.low_water.specs.Marks.{is_marked}
 use Rattle.ask_table.specs.Asks.{fresh, with_ask}
-use Rattle.changeset.specs.Changes.{IsOneTouch, SeenChange}
-use Rattle.maint_msg.proofs.MaintLemmas.{maint_stays}
-use Rattle.maint_msg.specs.Maints.{IsMaint, SeenMaint}
-use Rattle.sealed_item.specs.Fills.{IsSealed, SealedItem}
+use Rattle.cache_items.specs.changeset.Changes.{IsOneTouch, SeenChange}
+use Rattle.cache_items.proofs.maint_msg_lemmas.MaintLemmas.{maint_stays}
+use Rattle.cache_items.specs.maint_msg.Maints.{IsMaint, SeenMaint}
+use Rattle.cache_items.specs.sealed_item.Fills.{IsSealed, SealedItem}
 use Rattle.cache_node.proofs.Answering.{fill_answers, look_answers}
 use Rattle.cache_node.proofs.Changing.{changed_is_true}
 use Rattle.cache_node.proofs.Filling.{ended_is_true, took_fill_is_true, took_own_is_true}
@@ -35,7 +35,7 @@ use Rattle.cache_items.specs.declared.look.Kept.{Kept}
 use Rattle.cache_items.specs.declared.look.Look.{Look}
 use Rattle.cache_items.specs.Kept.{GivesKept, ask_at, is_yes, kept_of, own_kept_of, took}
 use Rattle.cache_node.specs.Answered.{LookAnswers, ViewAnswers}
-use Rattle.sealed_item.specs.Decided.{content_answer, content_decides}
+use Rattle.cache_items.specs.sealed_item.Decided.{content_answer, content_decides}
 use Rattle.cache_items.specs.Look.{is_hit, look_of}
 use Rattle.served_shards.specs.Meetings.{MeetsAt}
 use Rattle.cache_items.specs.Node.{Node, caught_up, delivered, with_ended_ask, item_at, met, with_opened_ask, without, without_last}

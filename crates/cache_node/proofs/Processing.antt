@@ -23,9 +23,9 @@ use Rattle.shard_log.proofs.GrowthLemmas.{entry_stays}
 use Rattle.shard_log.specs.View.{View, Grows}
 use Rattle.ask_table.specs.Asks.{with_floor}
 use Rattle.lru.proofs.Splits.{all_map}
-use Rattle.maint_msg.specs.KeyVersions.{key_version, keys_of}
-use Rattle.maint_msg.specs.Maints.{NamesEntry}
-use Rattle.maint_msg.specs.declared.key_versions.KeyVersion.{KeyVersion}
+use Rattle.cache_items.specs.maint_msg.KeyVersions.{key_version, keys_of}
+use Rattle.cache_items.specs.maint_msg.Maints.{NamesEntry}
+use Rattle.cache_items.specs.maint_msg.declared.key_versions.KeyVersion.{KeyVersion}
 use Rattle.cache_node.proofs.Keys.{distinct_without, held_fewer, held_gone}
 use Rattle.cache_node.proofs.Raised.{floors_reach, raised_is_true}
 use Rattle.cache_node.proofs.ServedAt.{changed_there}

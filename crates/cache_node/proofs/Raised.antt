@@ -10,7 +10,7 @@ use Rattle.graph_model.specs.Log.{version}
 use Rattle.ask_table.specs.declared.ask.Ask.{Ask}
 use Rattle.ask_table.specs.Asks.{Asks, with_floor}
 use Rattle.ask_table.specs.Open.{raised_ask}
-use Rattle.maint_msg.specs.declared.key_versions.KeyVersion.{KeyVersion}
+use Rattle.cache_items.specs.maint_msg.declared.key_versions.KeyVersion.{KeyVersion}
 use Rattle.lru.proofs.Splits.{all_map}
 use Rattle.graph_model.proofs.Later.{all_map as all_weaker}
 use Rattle.cache_node.proofs.Truth.{asks_are_true}

@@ -6,7 +6,7 @@ use Rattle.std.specs.Prelude.{◌==◌, ◌&&◌, nat_le}
 use Rattle.tao_base.specs.declared.entry.Entry.{Entry}
 use Rattle.low_water.proofs.AddedMarks.{mark_adds}
 use Rattle.low_water.specs.Marks.{IsWindow, Marks, is_marked, with_mark}
-use Rattle.maint_msg.specs.KeyVersions.{keys_of}
+use Rattle.cache_items.specs.maint_msg.KeyVersions.{keys_of}
 use Rattle.cache_node.proofs.ServedAt.{changed_there}
 use Rattle.cache_node.proofs.Truth.{marking_keeps}
 use Rattle.cache_node.specs.Laws.{CatchingUpReaches, FollowFrom}

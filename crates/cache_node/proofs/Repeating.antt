@@ -13,9 +13,9 @@ use Rattle.tao_base.specs.declared.entry.Entry.{Entry}
 use Rattle.tao_base.specs.declared.id.Key.{Key}
 use Rattle.tao_base.specs.declared.query.Answer.{Answer}
 use Rattle.tao_base.specs.declared.query.Query.{Query}
-use Rattle.sealed_item.proofs.Deciding.{longer_contents_answer}
-use Rattle.sealed_item.specs.Decided.{content_answer, content_decides, is_longer_content}
-use Rattle.sealed_item.specs.Fills.{IsExactContent, SealedItem}
+use Rattle.cache_items.proofs.sealed_item_lemmas.Deciding.{longer_contents_answer}
+use Rattle.cache_items.specs.sealed_item.Decided.{content_answer, content_decides, is_longer_content}
+use Rattle.cache_items.specs.sealed_item.Fills.{IsExactContent, SealedItem}
 use Rattle.cache_items.specs.declared.item.Item.{Item}
 use Rattle.cache_items.specs.declared.look.Look.TheVariants.{Hit, Miss}
 use Rattle.cache_items.specs.Kept.{item_of, kept_items, stays}

@@ -19,10 +19,10 @@ use Rattle.graph_model.specs.Log.{IsTouchOf, entry_at, touches_key, version}
 use Rattle.graph_model.specs.Soundness.{IsSound}
 use Rattle.graph_model.specs.Told.{WhereTold}
 use Rattle.shard_log.specs.View.{Grows, LogName, View, most_entries}
-use Rattle.changeset.proofs.ChangeLemmas.{is_one_touch, touch_at, touches_stay}
-use Rattle.changeset.specs.Changes.{SeenChange, change_by, own_touch}
-use Rattle.maint_msg.specs.KeyVersions.{key_version, keys_of}
-use Rattle.maint_msg.specs.Maints.{NamesEntry}
+use Rattle.cache_items.proofs.changeset_lemmas.ChangeLemmas.{is_one_touch, touch_at, touches_stay}
+use Rattle.cache_items.specs.changeset.Changes.{SeenChange, change_by, own_touch}
+use Rattle.cache_items.specs.maint_msg.KeyVersions.{key_version, keys_of}
+use Rattle.cache_items.specs.maint_msg.Maints.{NamesEntry}
 use Rattle.served_shards.specs.Meetings.{MeetsAt}
 use Rattle.served_shards.specs.Served.{ServedShard, log_at, seeing, served_at}
 use Rattle.cache_items.specs.declared.item.Item.{Item}

@@ -16,7 +16,7 @@ use Rattle.low_water.proofs.AddedMarks.{mark_adds}
 use Rattle.low_water.specs.Marks.{Marks, is_marked, marks, with_mark}
 use Rattle.ask_table.specs.declared.ask.Ask.{Ask}
 use Rattle.ask_table.specs.Asks.{Asks}
-use Rattle.sealed_item.proofs.FillLemmas.{content_stays}
+use Rattle.cache_items.proofs.sealed_item_lemmas.FillLemmas.{content_stays}
 use Rattle.cache_node.proofs.ServedAt.{KeepsLog, alike_stays, changed_back, changed_cases, changed_served, told_before}
 use Rattle.served_shards.specs.Meetings.{Meets, MeetsAt}
 use Rattle.cache_items.specs.Node.{Items, Node, item_at, met}

@@ -7,7 +7,7 @@ use Rattle.tao_base.specs.Queries.{query_key}
 use Rattle.tao_base.specs.Keys.{key_shard}
 use Rattle.graph_model.specs.Told.{WhereTold}
 use Rattle.shard_log.specs.View.{View}
-use Rattle.sealed_item.specs.Decided.{IsExactAnswer}
+use Rattle.cache_items.specs.sealed_item.Decided.{IsExactAnswer}
 use Rattle.served_shards.specs.Served.{ServedShard, served_at}
 use Rattle.cache_node.specs.True.{AreTold}
 use Rattle.cache_items.specs.declared.look.Look.{Look}

@@ -14,9 +14,9 @@ use Rattle.tao_base.specs.Keys.{same_key}
 use Rattle.shard_log.specs.View.{Begins}
 use Rattle.low_water.specs.Marks.{IsWindow}
 use Rattle.lru.specs.LruCache.{promoted}
-use Rattle.changeset.specs.Changes.{SeenChange}
-use Rattle.maint_msg.specs.declared.key_versions.KeyVersion.{KeyVersion}
-use Rattle.sealed_item.specs.Decided.{IsExactAnswer, IsWithinBound, content_answer, content_decides}
+use Rattle.cache_items.specs.changeset.Changes.{SeenChange}
+use Rattle.cache_items.specs.maint_msg.declared.key_versions.KeyVersion.{KeyVersion}
+use Rattle.cache_items.specs.sealed_item.Decided.{IsExactAnswer, IsWithinBound, content_answer, content_decides}
 use Rattle.cache_items.specs.Kept.{item_of, kept_items, stays}
 use Rattle.cache_items.specs.Look.{look_of}
 use Rattle.cache_items.specs.Node.{Items, Node, caught_up as node_caught_up, dropped, item_at, without, without_last}
@@ -26,7 +26,7 @@ use Rattle.cache_node.specs.True.{IsTrueItem, IsTrueServed}
 use Rattle.cache_node.specs.Within.{AreFewer, AreWithin}
 use Rattle.cache_items.specs.declared.item.Item.{Item}
 use Rattle.cache_items.specs.declared.look.Look.TheVariants.{Hit}
-use Rattle.sealed_item.specs.Fills.{IsExactContent, SealedItem}
+use Rattle.cache_items.specs.sealed_item.Fills.{IsExactContent, SealedItem}
 use Rattle.tao_base.specs.Queries.{query_key}
 
 -- an answer of what was seen of a log is a legal one of each log that it begins, for each floor that its version has reached

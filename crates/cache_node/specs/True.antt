@@ -9,9 +9,9 @@ use Rattle.graph_model.specs.Log.{version, entry_at}
 use Rattle.graph_model.specs.Soundness.{IsSound}
 use Rattle.low_water.specs.Marks.{is_marked}
 use Rattle.ask_table.specs.declared.ask.Ask.{Ask}
-use Rattle.maint_msg.specs.KeyVersions.{keys_of}
-use Rattle.maint_msg.specs.declared.key_versions.KeyVersion.{KeyVersion}
-use Rattle.sealed_item.specs.Fills.{IsExactContent}
+use Rattle.cache_items.specs.maint_msg.KeyVersions.{keys_of}
+use Rattle.cache_items.specs.maint_msg.declared.key_versions.KeyVersion.{KeyVersion}
+use Rattle.cache_items.specs.sealed_item.Fills.{IsExactContent}
 use Rattle.cache_items.specs.declared.item.Item.{Item}
 use Rattle.cache_items.specs.Node.{Node, item_at}
 use Rattle.served_shards.specs.Served.{ServedShard, served_at}

@@ -2,7 +2,7 @@
 use Rattle.std.specs.Prelude.{◌≡◌, Some}
 use Rattle.tao_base.specs.EdgeTypes.{EdgeTypes}
 use Rattle.tao_base.specs.declared.id.Key.{Key}
-use Rattle.sealed_item.specs.Decided.{IsWithinBound}
+use Rattle.cache_items.specs.sealed_item.Decided.{IsWithinBound}
 use Rattle.cache_items.specs.declared.item.Item.{Item}
 use Rattle.cache_items.specs.Node.{Items, item_at}
 

@@ -12,7 +12,7 @@ use Rattle.maint_msg.specs.Maints.{SeenMaint}
 use Rattle.node_name.specs.declared.NodeName.{NodeName}
 use Rattle.node_name.specs.declared.NodeName.TheVariants.{Store, Leader, Follower}
 use Rattle.shard_log.specs.View.{View}
-use Rattle.shard_tables.specs.Written.{LiesOn, StandsIn}
+use Rattle.core_model.specs.shard_tables.Written.{LiesOn, StandsIn}
 use Rattle.tao_base.specs.declared.entry.Entry.{Entry}
 use Rattle.topology.specs.Choices.{round_from, serving_follower}
 use Rattle.topology.specs.Config.{Settings}

@@ -3,7 +3,7 @@ ghost use Rattle.std.specs.Prelude.{◌≡◌, IfOk, map};
 ghost use Rattle.core_mail.specs.Inboxes.{LosesAll, TakesOut, WaitsAt, cleared, entry_message, no_messages, shown_message};
 ghost use Rattle.core_model.specs.Fleet.{ChangesNode, HasNode};
 ghost use Rattle.maint_msg.specs.Inbox.{IsSent};
-ghost use Rattle.shard_tables.specs.Written.{LiesOn, StandsIn};
+ghost use Rattle.core_model.specs.shard_tables.Written.{LiesOn, StandsIn};
 
 use core_model::{Named, named_place};
 use maint_msg::{Inbox, Maint};

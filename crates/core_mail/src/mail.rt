@@ -5,7 +5,7 @@ ghost use Rattle.core_model.specs.Asked.{settings};
 ghost use Rattle.core_model.specs.Fleet.{ChangesNode, HasNode, node_names, regions_of, serves_in_turn};
 ghost use Rattle.core_model.specs.Messages.{IsMessageFor, notified_of};
 ghost use Rattle.core_model.specs.Pens.{IsSeen, Pens};
-ghost use Rattle.shard_tables.specs.Written.{LiesOn, StandsIn};
+ghost use Rattle.core_model.specs.shard_tables.Written.{LiesOn, StandsIn};
 ghost use Rattle.topology.specs.Config.{Settings};
 
 use crate::inboxes::{clear_all, clear_at, copy_at, empty_inboxes, send_at, shown, take_at};

@@ -16,7 +16,7 @@ use Rattle.cache_items.specs.declared.look.Look.TheVariants.{Hit, Miss}
 use Rattle.follower_cache.specs.Seen.{FollowerState}
 use Rattle.maint_msg.specs.KeyVersions.{keys_of}
 use Rattle.maint_msg.specs.Maints.{SeenMaint}
-use Rattle.sealed_item.specs.Fills.{SealedItem}
+use Rattle.cache_items.specs.sealed_item.Fills.{SealedItem}
 use Rattle.served_shards.specs.Served.{low_at}
 use Rattle.shard_log.specs.View.{View}
 use Rattle.core_model.specs.Asks.{AsksGoOn}

@@ -8,10 +8,10 @@ use Rattle.std.specs.Prelude.{◌==◌, ◌&&◌, ◌/◌, ◌%◌, find, slice_
 use Rattle.graph_model.specs.Told.{WhereTold}
 use Rattle.shard_log.proofs.GrowthLemmas.{grows-self}
 use Rattle.shard_log.specs.View.{Grows}
-use Rattle.shard_tables.specs.StoreView.{Store}
-use Rattle.shard_tables.specs.Stores.{HasSeen, IsStoreOf}
-use Rattle.shard_tables.specs.declared.store.StoreRole.{StoreRole}
-use Rattle.shard_tables.specs.declared.store.StoreRole.TheVariants.{Master, Slave}
+use Rattle.leader_tier.specs.shard_tables.StoreView.{Store}
+use Rattle.leader_tier.specs.shard_tables.Stores.{HasSeen, IsStoreOf}
+use Rattle.leader_tier.specs.shard_tables.declared.store.StoreRole.{StoreRole}
+use Rattle.leader_tier.specs.shard_tables.declared.store.StoreRole.TheVariants.{Master, Slave}
 use Rattle.tao_base.specs.declared.id.StoreName.{StoreName}
 use Rattle.tao_keeper.specs.Table.{Table, Tables}
 use Rattle.topology.specs.Config.{Settings}

@@ -20,10 +20,10 @@ use Rattle.cache_items.specs.declared.item.Item.{Item}
 use Rattle.cache_items.specs.declared.look.Kept.{Kept}
 use Rattle.cache_items.specs.declared.look.Look.{Look}
 use Rattle.cache_items.specs.declared.look.Look.TheVariants.{Hit, Miss}
-use Rattle.cache_node.proofs.Keys.{distinct_without, held_without}
-use Rattle.cache_node.proofs.Processing.{distinct_dropped}
-use Rattle.cache_node.proofs.TakenEntries.{distinct_change}
-use Rattle.changeset.specs.Changes.{SeenChange, change_by}
+use Rattle.follower_cache.proofs.cache_node_lemmas.Keys.{distinct_without, held_without}
+use Rattle.follower_cache.proofs.cache_node_lemmas.Processing.{distinct_dropped}
+use Rattle.follower_cache.proofs.cache_node_lemmas.TakenEntries.{distinct_change}
+use Rattle.cache_items.specs.changeset.Changes.{SeenChange, change_by}
 use Rattle.follower_cache.specs.Seen.{FollowerState}
 use Rattle.graph_model.proofs.Keys.{same_key-same, same_key-self}
 use Rattle.leader_tier.specs.LeaderReads.{KeepsGiven}
@@ -33,10 +33,10 @@ use Rattle.lru.proofs.Pairs.{lookup-lookup_entry}
 use Rattle.lru.specs.LruCache.{last_entry, lru_cache, promoted, put_entries}
 use Rattle.maint_msg.specs.KeyVersions.{key_version, keys_of}
 use Rattle.maint_msg.specs.declared.key_versions.KeyVersion.{KeyVersion}
-use Rattle.sealed_item.specs.Fills.{SealedItem}
+use Rattle.cache_items.specs.sealed_item.Fills.{SealedItem}
 use Rattle.shard_log.specs.View.{View}
-use Rattle.shard_tables.specs.declared.leader_answer.LeaderAnswer.{LeaderAnswer}
-use Rattle.shard_tables.specs.declared.leader_answer.LeaderAnswer.TheVariants as leader
+use Rattle.leader_tier.specs.shard_tables.declared.leader_answer.LeaderAnswer.{LeaderAnswer}
+use Rattle.leader_tier.specs.shard_tables.declared.leader_answer.LeaderAnswer.TheVariants as leader
 use Rattle.tao_schema.specs.Schema.{key_bound}
 use Rattle.core_model.specs.Items.{AreApart, AreWellHeld, IsNotNamed, IsOfRead, ItemsStay, KeepsItem, KeepsUnlessLast}
 use Rattle.core_model.specs.Reads.{AfterLook, LeaderAnswers, StoreCalls, Wanted}

@@ -4,8 +4,8 @@ use Rattle.std.proofs.lemmas.Bool.{cases_Bool}
 use Rattle.std.proofs.lemmas.Bool.Decides.{nat_tests}
 use Rattle.std.specs.Prelude.{if◌then◌else◌}
 use Rattle.graph_model.specs.Soundness.{EdgeUpdate, IsSoundOf}
-use Rattle.master_tables.proofs.Calls.{tables_are_stores}
-use Rattle.master_tables.specs.Masters.{each_shard}
+use Rattle.leader_tier.proofs.master_tables_lemmas.Calls.{tables_are_stores}
+use Rattle.leader_tier.specs.master_tables.Masters.{each_shard}
 use Rattle.tao_base.specs.declared.entry.Entry.{Entry}
 use Rattle.tao_base.specs.declared.id.StoreName.{StoreName}
 use Rattle.tao_keeper.specs.Table.{Stays, Tables}

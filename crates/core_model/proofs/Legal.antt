@@ -6,11 +6,11 @@ use Rattle.tao_base.specs.Queries.{query_shard}
 use Rattle.tao_base.specs.declared.query.Answer.{Answer}
 use Rattle.cache_items.specs.declared.look.Look.{Look}
 use Rattle.cache_items.specs.declared.look.Look.TheVariants.{Hit, Miss}
-use Rattle.cache_node.proofs.LegalAnswers.{answers_are_legal}
-use Rattle.cache_node.specs.Answered.{LookAnswers, ViewAnswers}
-use Rattle.cache_node.specs.True.{AreTold}
+use Rattle.follower_cache.proofs.cache_node_lemmas.LegalAnswers.{answers_are_legal}
+use Rattle.follower_cache.specs.cache_node.Answered.{LookAnswers, ViewAnswers}
+use Rattle.follower_cache.specs.cache_node.True.{AreTold}
 use Rattle.graph_model.specs.Told.{WhereTold}
-use Rattle.sealed_item.specs.Decided.{IsExactAnswer}
+use Rattle.cache_items.specs.sealed_item.Decided.{IsExactAnswer}
 use Rattle.served_shards.specs.Served.{ServedShard, served_at}
 use Rattle.shard_log.proofs.GrowthLemmas.{legal-grows}
 use Rattle.shard_log.specs.GrowthLaws.{IsLegalIn}

@@ -19,3 +19,5 @@ pub mod Settled
 pub mod Staying
 pub mod StayingJobs
 pub mod Turns
+pub use Rattle.follower_cache.proofs.cache_node_lemmas
+pub use Rattle.leader_tier.proofs as leader_tier_lemmas

@@ -15,7 +15,7 @@ use Rattle.cache_items.specs.TakenEntry.{AppliesEntry}
 use Rattle.cache_items.specs.declared.look.Kept.{Kept}
 use Rattle.cache_items.specs.declared.look.Look.{Look}
 use Rattle.cache_items.specs.declared.look.Look.TheVariants.{Hit, Miss}
-use Rattle.cache_node.proofs.ServedAt.{KeepsLog}
+use Rattle.follower_cache.proofs.cache_node_lemmas.ServedAt.{KeepsLog}
 use Rattle.follower_cache.specs.Seen.{FollowerState}
 use Rattle.leader_tier.specs.LeaderReads.{KeepsGiven}
 use Rattle.leader_tier.specs.TakenWrites.{TakesWritten}
@@ -25,12 +25,12 @@ use Rattle.low_water.specs.Marks.{IsWindow, Marks, is_marked, marks}
 use Rattle.maint_msg.specs.KeyVersions.{keys_of}
 use Rattle.maint_msg.specs.Maints.{SeenMaint}
 use Rattle.maint_msg.specs.declared.key_versions.KeyVersion.{KeyVersion}
-use Rattle.sealed_item.specs.Fills.{SealedItem}
+use Rattle.cache_items.specs.sealed_item.Fills.{SealedItem}
 use Rattle.served_shards.specs.Begun.{restarted}
 use Rattle.served_shards.specs.Served.{ServedShard, changed_at, forgetting, log_at, marking, seeing}
 use Rattle.shard_log.specs.View.{View}
-use Rattle.shard_tables.specs.declared.leader_answer.LeaderAnswer.{LeaderAnswer}
-use Rattle.shard_tables.specs.declared.leader_answer.LeaderAnswer.TheVariants as leader
+use Rattle.leader_tier.specs.shard_tables.declared.leader_answer.LeaderAnswer.{LeaderAnswer}
+use Rattle.leader_tier.specs.shard_tables.declared.leader_answer.LeaderAnswer.TheVariants as leader
 use Rattle.core_model.specs.Consistent.{MarksGoOn, MarksRise, ShardGoesOn, is_told, marks_at}
 use Rattle.core_model.specs.Emptied.{Anew, BeginEach, BeginsAnew, IsLowFor, MayBeginAnew, at_marks, at_stores}
 use Rattle.core_model.specs.Evictions.{Evicts}

@@ -4,7 +4,7 @@ use Rattle.std.specs.Option.{option_map}
 use Rattle.std.specs.Prelude.{Contains, length, slice_get, unwrap_or}
 use Rattle.graph_model.proofs.Members.{contains_from_in}
 use Rattle.graph_model.specs.Soundness.{EdgeUpdate}
-use Rattle.master_tables.proofs.Calls.{tables_are_stores}
+use Rattle.leader_tier.proofs.master_tables_lemmas.Calls.{tables_are_stores}
 use Rattle.tao_base.specs.Ids.{shard_of}
 use Rattle.tao_keeper.specs.Table.{Tables}
 use Rattle.tao_keeper.specs.declared.jobs.Job.{Job}

@@ -1,7 +1,7 @@
 -- Nodes stay past the cuts of logs, and stores come to them.
 use Rattle.std.proofs.Common.{◌≡◌, ◌≢◌, ◌⊎◌, ℕ, ◌≤◌, ◌<◌, true, length, Option, Some, None, refl, ap, sym, subst, ◌∙◌, inl, inr, arith}
 use Rattle.cache_items.specs.Node.{Node}
-use Rattle.cache_node.specs.True.{AreTold, IsServed}
+use Rattle.follower_cache.specs.cache_node.True.{AreTold, IsServed}
 use Rattle.low_water.specs.Marks.{Marks}
 use Rattle.node_name.specs.declared.NodeName.{NodeName}
 use Rattle.served_shards.specs.Served.{ServedShard, served_at}

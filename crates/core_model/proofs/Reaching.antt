@@ -13,25 +13,25 @@ use Rattle.cache_items.specs.Node.{Node, caught_up, delivered, met, processed, w
 use Rattle.cache_items.specs.declared.look.Kept.{Kept}
 use Rattle.cache_items.specs.declared.look.Look.{Look}
 use Rattle.cache_items.specs.declared.look.Look.TheVariants.{Hit, Miss}
-use Rattle.cache_node.specs.Laws.{KeepsShard}
+use Rattle.follower_cache.specs.cache_node.Laws.{KeepsShard}
 use Rattle.follower_cache.specs.Seen.{FollowerState}
 use Rattle.leader_tier.specs.LeaderReads.{KeepsGiven}
 use Rattle.leader_tier.specs.TakenWrites.{TakesWritten}
-use Rattle.cache_node.proofs.Marked.{low_is_marked}
-use Rattle.cache_node.specs.True.{AreTold}
+use Rattle.follower_cache.proofs.cache_node_lemmas.Marked.{low_is_marked}
+use Rattle.follower_cache.specs.cache_node.True.{AreTold}
 use Rattle.low_water.proofs.AddedMarks.{mark_adds, window_none}
 use Rattle.low_water.specs.Marks.{IsWindow, Marks, is_marked, marks, with_mark}
 use Rattle.maint_msg.specs.KeyVersions.{keys_of}
 use Rattle.maint_msg.specs.Maints.{SeenMaint}
 use Rattle.node_name.specs.declared.NodeName.{NodeName}
-use Rattle.sealed_item.specs.Fills.{SealedItem}
+use Rattle.cache_items.specs.sealed_item.Fills.{SealedItem}
 use Rattle.served_shards.specs.Begun.{restarted}
 use Rattle.served_shards.specs.Served.{ServedShard, changed_at, forgetting, log_at, marking, restarting, seeing, served_at}
 use Rattle.shard_log.proofs.Beginnings.{begins-length}
 use Rattle.shard_log.specs.View.{View}
-use Rattle.shard_tables.specs.StoreView.{Store}
-use Rattle.shard_tables.specs.declared.leader_answer.LeaderAnswer.{LeaderAnswer}
-use Rattle.shard_tables.specs.declared.leader_answer.LeaderAnswer.TheVariants as leader
+use Rattle.leader_tier.specs.shard_tables.StoreView.{Store}
+use Rattle.leader_tier.specs.shard_tables.declared.leader_answer.LeaderAnswer.{LeaderAnswer}
+use Rattle.leader_tier.specs.shard_tables.declared.leader_answer.LeaderAnswer.TheVariants as leader
 use Rattle.tao_keeper.specs.Growing.{LogsGrow}
 use Rattle.tao_keeper.specs.Table.{Tables}
 use Rattle.topology.specs.Config.{Settings}

@@ -14,10 +14,10 @@ use Rattle.cache_items.specs.Delivered.{content_row, dropped_lists, row_of, stal
 use Rattle.cache_items.specs.Node.{Items, Node, delivered, is_stale, item_at, without_stale}
 use Rattle.cache_items.specs.declared.delivered.DroppedList.{DroppedList}
 use Rattle.cache_items.specs.declared.item.Item.{Item}
-use Rattle.cache_node.proofs.Bounds.{items_are_fewer}
-use Rattle.cache_node.proofs.Processing.{distinct_dropped, named_versions}
-use Rattle.cache_node.proofs.ServedAt.{changed_there}
-use Rattle.cache_node.specs.True.{AreTold, IsServed, IsTrueNode}
+use Rattle.follower_cache.proofs.cache_node_lemmas.Bounds.{items_are_fewer}
+use Rattle.follower_cache.proofs.cache_node_lemmas.Processing.{distinct_dropped, named_versions}
+use Rattle.follower_cache.proofs.cache_node_lemmas.ServedAt.{changed_there}
+use Rattle.follower_cache.specs.cache_node.True.{AreTold, IsServed, IsTrueNode}
 use Rattle.follower_cache.specs.Refills.{Queues, QueuesRow, refill_at, refill_of}
 use Rattle.follower_cache.specs.Seen.{FollowerState}
 use Rattle.follower_cache.specs.declared.queue.Refill.{Refill}
@@ -29,8 +29,8 @@ use Rattle.graph_model.specs.Told.{WhereTold}
 use Rattle.maint_msg.specs.Maints.{SeenMaint}
 use Rattle.maint_msg.specs.declared.key_versions.KeyVersion.{KeyVersion}
 use Rattle.node_name.specs.declared.NodeName.{NodeName}
-use Rattle.sealed_item.specs.declared.content.Content.{Content}
-use Rattle.sealed_item.specs.declared.content.Content.TheVariants.{Object as ObjectIs, List as ListIs}
+use Rattle.cache_items.specs.sealed_item.declared.content.Content.{Content}
+use Rattle.cache_items.specs.sealed_item.declared.content.Content.TheVariants.{Object as ObjectIs, List as ListIs}
 use Rattle.served_shards.specs.Served.{ServedShard, changed_at, marking, seeing, served_at}
 use Rattle.shard_log.proofs.Beginnings.{longer_begins}
 use Rattle.shard_log.proofs.GrowthLemmas.{beginnings_are_sound, versions_stay}

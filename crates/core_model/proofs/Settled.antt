@@ -2,14 +2,14 @@
 use Rattle.std.proofs.Common.{◌≡◌, ℕ, zero, suc, ◌≤◌, ◌<◌, true, List, [], ◌∷◌, length, take, refl, ap, sym, subst, ◌∙◌, inl, inr, arith}
 use Rattle.std.proofs.lemmas.Bool.{cases_Bool, cases_lt}
 use Rattle.cache_items.specs.Node.{Node}
-use Rattle.cache_node.specs.True.{AreTold, IsServed}
+use Rattle.follower_cache.specs.cache_node.True.{AreTold, IsServed}
 use Rattle.node_name.specs.declared.NodeName.{NodeName}
 use Rattle.shard_log.proofs.Beginnings.{begins-length, begins-trans}
 use Rattle.shard_log.specs.View.{Begins, Grows, View}
-use Rattle.shard_tables.specs.StoreView.{Store}
-use Rattle.shard_tables.specs.Stores.{HasSeen}
-use Rattle.shard_tables.specs.declared.store.StoreRole.{StoreRole}
-use Rattle.shard_tables.specs.declared.store.StoreRole.TheVariants.{Master, Slave}
+use Rattle.leader_tier.specs.shard_tables.StoreView.{Store}
+use Rattle.leader_tier.specs.shard_tables.Stores.{HasSeen}
+use Rattle.leader_tier.specs.shard_tables.declared.store.StoreRole.{StoreRole}
+use Rattle.leader_tier.specs.shard_tables.declared.store.StoreRole.TheVariants.{Master, Slave}
 use Rattle.tao_base.specs.declared.entry.Entry.{Entry}
 use Rattle.tao_base.specs.declared.id.StoreName.{StoreName}
 use Rattle.tao_keeper.specs.Table.{Table, Tables}

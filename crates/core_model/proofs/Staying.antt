@@ -10,19 +10,19 @@ use Rattle.tao_base.specs.Queries.{query_key}
 use Rattle.tao_base.specs.declared.entry.Entry.{Entry}
 use Rattle.tao_base.specs.declared.entry.Touch.{Touch}
 use Rattle.tao_base.specs.declared.id.Key.{Key}
-use Rattle.changeset.specs.Changes.{change_by}
+use Rattle.cache_items.specs.changeset.Changes.{change_by}
 use Rattle.cache_items.specs.Kept.{is_yes, item_of, took, with_item}
 use Rattle.cache_items.specs.Node.{Items, Node, caught_up, delivered, dropped, met, processed, with_ended_ask, without, without_last}
 use Rattle.cache_items.specs.TakenEntry.{AppliesEntry, TakesEntry, TakesTouches}
 use Rattle.cache_items.specs.declared.look.Kept.{Kept}
 use Rattle.cache_items.specs.declared.look.Look.{Look}
 use Rattle.cache_items.specs.declared.look.Look.TheVariants.{Hit, Miss}
-use Rattle.cache_node.proofs.Bounds.{items_are_fewer, items_stay_within}
-use Rattle.cache_node.proofs.Keys.{held_take}
-use Rattle.cache_node.proofs.TakenEntries.{distinct_change}
-use Rattle.cache_node.specs.Laws.{KeepsShard}
-use Rattle.cache_node.specs.True.{IsTrueNode}
-use Rattle.cache_node.specs.Within.{AreFewer, AreWithin}
+use Rattle.follower_cache.proofs.cache_node_lemmas.Bounds.{items_are_fewer, items_stay_within}
+use Rattle.follower_cache.proofs.cache_node_lemmas.Keys.{held_take}
+use Rattle.follower_cache.proofs.cache_node_lemmas.TakenEntries.{distinct_change}
+use Rattle.follower_cache.specs.cache_node.Laws.{KeepsShard}
+use Rattle.follower_cache.specs.cache_node.True.{IsTrueNode}
+use Rattle.follower_cache.specs.cache_node.Within.{AreFewer, AreWithin}
 use Rattle.follower_cache.specs.Seen.{FollowerState}
 use Rattle.leader_tier.specs.LeaderReads.{GivesAnswer, KeepsGiven, asked_read}
 use Rattle.leader_tier.specs.TakenWrites.{TakesWritten}
@@ -30,14 +30,14 @@ use Rattle.lru.specs.LruCache.{promoted}
 use Rattle.maint_msg.specs.KeyVersions.{keys_of as keys_touched}
 use Rattle.maint_msg.specs.Maints.{SeenMaint}
 use Rattle.node_name.specs.declared.NodeName.{NodeName}
-use Rattle.sealed_item.specs.Decided.{IsWithinBound}
-use Rattle.sealed_item.specs.Fills.{SealedItem}
+use Rattle.cache_items.specs.sealed_item.Decided.{IsWithinBound}
+use Rattle.cache_items.specs.sealed_item.Fills.{SealedItem}
 use Rattle.served_shards.specs.Begun.{restarted}
 use Rattle.served_shards.specs.Served.{ServedShard, changed_at, forgetting, marking, seeing}
 use Rattle.shard_log.specs.View.{LogName, View}
-use Rattle.shard_tables.specs.StoreView.{Store}
-use Rattle.shard_tables.specs.declared.leader_answer.LeaderAnswer.{LeaderAnswer}
-use Rattle.shard_tables.specs.declared.leader_answer.LeaderAnswer.TheVariants as leader
+use Rattle.leader_tier.specs.shard_tables.StoreView.{Store}
+use Rattle.leader_tier.specs.shard_tables.declared.leader_answer.LeaderAnswer.{LeaderAnswer}
+use Rattle.leader_tier.specs.shard_tables.declared.leader_answer.LeaderAnswer.TheVariants as leader
 use Rattle.tao_keeper.specs.KeeperState.{KeeperState}
 use Rattle.tao_schema.specs.Schema.{key_bound, types_of}
 use Rattle.topology.specs.Config.{Settings}

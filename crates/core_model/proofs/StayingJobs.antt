@@ -5,8 +5,8 @@ use Rattle.std.proofs.lemmas.Bool.{cases_lt}
 use Rattle.std.proofs.lemmas.List.{get_or_past, take-append-drop}
 use Rattle.std.proofs.lemmas.List.Elements.{All-weaker}
 use Rattle.graph_model.specs.Records.{HasStamp}
-use Rattle.master_tables.proofs.Calls.{tables_are_stores}
-use Rattle.master_tables.proofs.Each.{each_length}
+use Rattle.leader_tier.proofs.master_tables_lemmas.Calls.{tables_are_stores}
+use Rattle.leader_tier.proofs.master_tables_lemmas.Each.{each_length}
 use Rattle.tao_base.specs.declared.entry.Entry.{Entry}
 use Rattle.tao_keeper.specs.Growing.{LogsGrow}
 use Rattle.tao_keeper.specs.Table.{Tables}

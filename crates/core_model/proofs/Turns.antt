@@ -5,7 +5,7 @@ use Rattle.std.specs.List.{range_with_len}
 use Rattle.std.proofs.lemmas.Bool.{and_parts, cases_Bool, cases_order, eq-eqb, eqb-false, eqb-true, ltb-true}
 use Rattle.graph_model.proofs.Members.{IsIn, contains_from_in, in_append_left, in_append_right, in_filter, in_filter_parts, in_map_parts}
 use Rattle.cache_items.specs.Node.{Node}
-use Rattle.cache_node.specs.True.{IsServed}
+use Rattle.follower_cache.specs.cache_node.True.{IsServed}
 use Rattle.node_name.specs.declared.NodeName.{NodeName}
 use Rattle.node_name.specs.declared.NodeName.TheVariants.{Store, Leader, Follower}
 use Rattle.served_shards.specs.Served.{ServedShard, served_at}

@@ -3,8 +3,8 @@ use Rattle.std.specs.Prelude.{ℕ, ◌≡◌, ◌≤◌, Bool, true, false, List
 use Rattle.std.specs.List.{AllByRecursion}
 use Rattle.std.specs.Option.{option_map_or}
 use Rattle.cache_items.specs.Node.{Node}
-use Rattle.cache_node.specs.True.{IsTrueNode}
-use Rattle.cache_node.specs.Within.{AreWithin}
+use Rattle.follower_cache.specs.cache_node.True.{IsTrueNode}
+use Rattle.follower_cache.specs.cache_node.Within.{AreWithin}
 use Rattle.follower_cache.specs.Seen.{FollowerState}
 use Rattle.graph_model.specs.Told.{WhereTold}
 use Rattle.low_water.specs.Marks.{IsWindow, Marks, is_marked, marks}

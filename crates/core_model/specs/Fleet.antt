@@ -7,7 +7,7 @@ use Rattle.cache_items.specs.Node.{Node}
 use Rattle.follower_cache.specs.Seen.{FollowerState}
 use Rattle.node_name.specs.declared.NodeName.{NodeName}
 use Rattle.node_name.specs.declared.NodeName.TheVariants.{Store as StoreName_, Leader, Follower}
-use Rattle.shard_tables.specs.StoreView.{Store}
+use Rattle.leader_tier.specs.shard_tables.StoreView.{Store}
 use Rattle.topology.specs.Config.{Settings}
 use Rattle.topology.specs.Counts.{NodeCounts, counts_of, follower_count, leader_count}
 use Rattle.tao_base.specs.declared.id.Key.{Key}

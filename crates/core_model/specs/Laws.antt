@@ -6,20 +6,20 @@ use Rattle.cache_items.specs.Node.{Node, without, without_last}
 use Rattle.cache_items.specs.declared.look.Kept.{Kept}
 use Rattle.cache_items.specs.declared.look.Look.{Look}
 use Rattle.cache_items.specs.declared.look.Look.TheVariants.{Hit}
-use Rattle.cache_node.specs.Answered.{LookAnswers, ViewAnswers}
-use Rattle.cache_node.specs.True.{AreTold, IsTrueNode}
+use Rattle.follower_cache.specs.cache_node.Answered.{LookAnswers, ViewAnswers}
+use Rattle.follower_cache.specs.cache_node.True.{AreTold, IsTrueNode}
 use Rattle.follower_cache.specs.Seen.{FollowerState}
 use Rattle.follower_cache.specs.declared.queue.Refill.{Refill}
 use Rattle.graph_model.specs.Told.{WhereTold}
 use Rattle.leader_tier.specs.TakenWrites.{TakesWritten}
 use Rattle.maint_msg.specs.Maints.{SeenMaint}
 use Rattle.node_name.specs.declared.NodeName.{NodeName}
-use Rattle.sealed_item.specs.Fills.{SealedItem}
+use Rattle.cache_items.specs.sealed_item.Fills.{SealedItem}
 use Rattle.served_shards.specs.Served.{ServedShard, changed_at, forgetting, marking, seeing, served_at}
 use Rattle.shard_log.specs.GrowthLaws.{IsLegalIn}
 use Rattle.shard_log.specs.View.{View}
-use Rattle.shard_tables.specs.StoreView.{Store}
-use Rattle.shard_tables.specs.declared.leader_answer.LeaderAnswer.{LeaderAnswer}
+use Rattle.leader_tier.specs.shard_tables.StoreView.{Store}
+use Rattle.leader_tier.specs.shard_tables.declared.leader_answer.LeaderAnswer.{LeaderAnswer}
 use Rattle.tao_base.specs.EdgeTypes.{EdgeTypes}
 use Rattle.tao_base.specs.Keys.{same_key}
 use Rattle.tao_base.specs.Queries.{query_shard}

@@ -17,3 +17,7 @@ pub mod States
 pub mod StoreLaws
 pub mod Stores
 pub mod Writes
+pub use Rattle.follower_cache.specs.cache_node
+pub use Rattle.follower_cache.specs as follower_cache
+pub use Rattle.leader_tier.specs as leader_tier
+pub use Rattle.leader_tier.specs.shard_tables

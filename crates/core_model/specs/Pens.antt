@@ -1,9 +1,9 @@
 -- The stores of the regions, the logs of the shards as their masters' pens see them, and what was seen of them.
 use Rattle.std.specs.Prelude.{ℕ, ◌≡◌, ◌==◌, ◌&&◌, Bool, true, false, List, [], Option, Some, None, find, length, slice_get}
 use Rattle.shard_log.specs.View.{View, Grows, longer_view}
-use Rattle.shard_tables.specs.StoreView.{Store}
-use Rattle.shard_tables.specs.declared.store.StoreRole.{StoreRole}
-use Rattle.shard_tables.specs.declared.store.StoreRole.TheVariants.{Master, Slave}
+use Rattle.leader_tier.specs.shard_tables.StoreView.{Store}
+use Rattle.leader_tier.specs.shard_tables.declared.store.StoreRole.{StoreRole}
+use Rattle.leader_tier.specs.shard_tables.declared.store.StoreRole.TheVariants.{Master, Slave}
 use Rattle.tao_base.specs.declared.id.StoreName.{StoreName}
 
 -- ---- stores

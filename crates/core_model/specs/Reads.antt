@@ -11,16 +11,16 @@ use Rattle.cache_items.specs.declared.look.Look.{Look}
 use Rattle.cache_items.specs.declared.look.Look.TheVariants.{Hit, Miss}
 use Rattle.follower_cache.specs.Seen.{FollowerState}
 use Rattle.leader_tier.specs.LeaderReads.{GivesAnswer, asked_read, at_floor}
-use Rattle.sealed_item.specs.Decided.{IsWithinBound, content_answer, content_decides}
-use Rattle.sealed_item.specs.Fills.{SealedItem}
+use Rattle.cache_items.specs.sealed_item.Decided.{IsWithinBound, content_answer, content_decides}
+use Rattle.cache_items.specs.sealed_item.Fills.{SealedItem}
 use Rattle.shard_log.specs.GrowthLaws.{IsLegalIn}
-use Rattle.shard_tables.specs.ReadOuts.{IsReadOutOf, read_note}
-use Rattle.shard_tables.specs.StoreView.{Store}
-use Rattle.shard_tables.specs.Stores.{note_of}
-use Rattle.shard_tables.specs.declared.leader_answer.LeaderAnswer.{LeaderAnswer}
-use Rattle.shard_tables.specs.declared.leader_answer.LeaderAnswer.TheVariants as leader
-use Rattle.shard_tables.specs.declared.read_out.ReadOut.{ReadOut}
-use Rattle.shard_tables.specs.declared.read_out.ReadOut.TheVariants as out
+use Rattle.leader_tier.specs.shard_tables.ReadOuts.{IsReadOutOf, read_note}
+use Rattle.leader_tier.specs.shard_tables.StoreView.{Store}
+use Rattle.leader_tier.specs.shard_tables.Stores.{note_of}
+use Rattle.leader_tier.specs.shard_tables.declared.leader_answer.LeaderAnswer.{LeaderAnswer}
+use Rattle.leader_tier.specs.shard_tables.declared.leader_answer.LeaderAnswer.TheVariants as leader
+use Rattle.leader_tier.specs.shard_tables.declared.read_out.ReadOut.{ReadOut}
+use Rattle.leader_tier.specs.shard_tables.declared.read_out.ReadOut.TheVariants as out
 use Rattle.tao_base.specs.EdgeTypes.{EdgeTypes}
 use Rattle.tao_base.specs.Queries.{query_key, query_shard}
 use Rattle.tao_base.specs.declared.id.Key.{Key}

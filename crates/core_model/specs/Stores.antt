@@ -4,11 +4,11 @@ use Rattle.tao_base.specs.declared.entry.Entry.{Entry}
 use Rattle.tao_base.specs.declared.id.StoreName.{StoreName}
 use Rattle.graph_model.specs.Soundness.{IsSoundOf}
 use Rattle.graph_model.specs.Told.{WhereTold}
-use Rattle.master_tables.specs.Masters.{Masters, stores_of}
-use Rattle.shard_tables.specs.StoreView.{Store}
-use Rattle.shard_tables.specs.Stores.{IsStoreOf}
-use Rattle.shard_tables.specs.declared.store.StoreRole.{StoreRole}
-use Rattle.shard_tables.specs.declared.store.StoreRole.TheVariants.{Master, Slave}
+use Rattle.leader_tier.specs.master_tables.Masters.{Masters, stores_of}
+use Rattle.leader_tier.specs.shard_tables.StoreView.{Store}
+use Rattle.leader_tier.specs.shard_tables.Stores.{IsStoreOf}
+use Rattle.leader_tier.specs.shard_tables.declared.store.StoreRole.{StoreRole}
+use Rattle.leader_tier.specs.shard_tables.declared.store.StoreRole.TheVariants.{Master, Slave}
 use Rattle.tao_keeper.specs.Table.{Tables}
 use Rattle.tao_schema.specs.Schema.{types_of}
 use Rattle.topology.specs.Config.{Settings}

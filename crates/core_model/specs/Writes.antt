@@ -3,7 +3,7 @@ use Rattle.std.specs.Prelude.{ℕ, ◌≡◌}
 use Rattle.cache_items.specs.TakenEntry.{AppliesEntry}
 use Rattle.follower_cache.specs.Seen.{FollowerState}
 use Rattle.shard_log.specs.View.{View}
-use Rattle.shard_tables.specs.Written.{StandsIn}
+use Rattle.leader_tier.specs.shard_tables.Written.{StandsIn}
 use Rattle.tao_base.specs.EdgeTypes.{EdgeTypes}
 use Rattle.tao_base.specs.declared.entry.Entry.{Entry}
 use Rattle.core_model.specs.Pens.{IsSeen, Pens}

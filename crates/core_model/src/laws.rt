@@ -13,7 +13,7 @@ ghost use Rattle.core_model.specs.States.{NodesNow, SettledStays};
 ghost use Rattle.core_model.specs.StoreLaws.{LogsFollow, StoreGoesOn, StoresAreFound, StoresGoOn};
 ghost use Rattle.node_name.specs.declared.NodeName.{NodeName as AnyNode};
 ghost use Rattle.shard_log.specs.View.{LogName};
-ghost use Rattle.shard_tables.specs.StoreView.{Store};
+ghost use Rattle.leader_tier.specs.shard_tables.StoreView.{Store};
 ghost use Rattle.tao_base.specs.EdgeTypes.{EdgeTypes};
 ghost use Rattle.tao_base.specs.declared.id.Key.{Key as KeyOf};
 ghost use Rattle.tao_keeper.specs.Table.{Tables};

@@ -30,7 +30,9 @@ mod named;
 mod names;
 
 pub use asked::{Around, AuthoredWrite, ShardJob, Wanted};
+pub use follower_cache;
 pub use jobs::far_shard;
+pub use leader_tier;
 pub use named::{Named, find_node, named_place};
 pub use names::{
     follower_names, leader_names, master_of, masters_are_regions, region_of, role_in, served_by,

@@ -7,8 +7,8 @@ ghost use Rattle.node_name.specs.declared.NodeName.TheVariants.{Follower as Foll
 ghost use Rattle.topology.specs.Choices.{serving_follower};
 ghost use Rattle.topology.specs.Counts.{follower_count, leader_count, tier_count};
 
+use leader_tier::shard_tables::StoreRole;
 use node_name::NodeName;
-use shard_tables::StoreRole;
 use std::alloc::Global;
 use tao_base::{OutOfMemory, StoreName};
 use topology::Config;

@@ -11,7 +11,7 @@ use Rattle.core_steps.specs.World.{World, world}
 use Rattle.core_model.specs.Asked.{client_call}
 use Rattle.core_steps.specs.Writes.{CanBeApplied, IsCommitted, SentWrite, sent_write}
 use Rattle.core_steps.specs.declared.nodes.Nodes.{Nodes}
-use Rattle.core_nodes.specs.Settling.{IsLaterLink}
+use Rattle.core_steps.specs.core_nodes.Settling.{IsLaterLink}
 use Rattle.node_name.specs.declared.NodeName.{NodeName}
 use Rattle.shard_log.specs.View.{View, as_note}
 use Rattle.shard_tables.specs.declared.writes.Wrote.{Wrote}

@@ -15,8 +15,8 @@ use Rattle.core_steps.specs.World.{World, world}
 use Rattle.core_steps.specs.declared.nodes.Nodes.{Nodes}
 use Rattle.core_steps.proofs.LinkLemmas.{link_self}
 use Rattle.core_model.proofs.NamedNodes.{changes_so}
-use Rattle.core_nodes.specs.Stages.{NodeIs}
-use Rattle.core_nodes.proofs.NodesOfNames.{is_after}
+use Rattle.core_steps.specs.core_nodes.Stages.{NodeIs}
+use Rattle.core_steps.proofs.core_nodes_lemmas.NodesOfNames.{is_after}
 use Rattle.core_steps.proofs.ReachLemmas.{end_reaches}
 use Rattle.core_steps.proofs.ReadLemmas.{legal_in_log, on_after, on_same, where_told}
 use Rattle.core_steps.proofs.Repeats.{RepeatsHit, filled_repeats, hit_alone, hit_repeats, not_past}

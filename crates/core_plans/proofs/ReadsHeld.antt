@@ -1,9 +1,9 @@
 -- A stage of a read, as one of a plan's: it changes no table and no message.
 use Rattle.std.proofs.Common.{◌≡◌, Some, inr, sym, subst}
-use Rattle.core_mail.proofs.InboxLemmas.{inboxes_stay}
-use Rattle.core_mail.specs.Inboxes.{AreInboxesOf, HaveArrived}
+use Rattle.core_steps.proofs.core_mail_lemmas.InboxLemmas.{inboxes_stay}
+use Rattle.core_steps.specs.core_mail.Inboxes.{AreInboxesOf, HaveArrived}
 use Rattle.core_model.specs.Pens.{pens_of}
-use Rattle.core_nodes.proofs.GrowingLemmas.{stays_stores}
+use Rattle.core_steps.proofs.core_nodes_lemmas.GrowingLemmas.{stays_stores}
 use Rattle.core_plans.specs.Held.{StepsReadAlone}
 use Rattle.core_plans.specs.HeldReads.{EndsReadAndPasses, HasComeTo, PassesReadStage, read_is_down, version_now}
 use Rattle.core_plans.specs.LedBy.{Rules}

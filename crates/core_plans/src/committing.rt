@@ -3,7 +3,7 @@ ghost use Rattle.std.specs.Prelude.{◌≡◌, ◌<◌, Bool, IfErr, IfOk, IfSom
 ghost use Rattle.std.specs.Option.{option_map};
 ghost use Rattle.core_model.specs.Pens.{pens_of};
 ghost use Rattle.core_model.specs.Stores.{AreStores, store_count};
-ghost use Rattle.core_nodes.specs.Settling.{IsLaterLink};
+ghost use Rattle.core_steps.specs.core_nodes.Settling.{IsLaterLink};
 ghost use Rattle.core_plans.specs.HeldWrites.{CommitsBy, ComesOfCommit, FindsNoLeader, IsWriteUnderWay, LeadWrite, PassesWriteStage, RefusesOnWay, taken_as};
 ghost use Rattle.core_plans.specs.LedBy.{led_by, rules_of};
 ghost use Rattle.core_steps.specs.Posting.{CanPost, PostsOn};

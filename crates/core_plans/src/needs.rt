@@ -7,7 +7,7 @@ ghost use Rattle.std.specs.Option.{option_map};
 ghost use Rattle.write_plan.specs.Plans.{next_of};
 
 use crate::leaders::Leaders;
-use core_nodes::region_store;
+use core_steps::core_nodes::region_store;
 use core_steps::{Nodes, TierPlace};
 use node_name::NodeName;
 use read_plan::{ReadPlan, ReadStage};

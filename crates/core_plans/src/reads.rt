@@ -15,7 +15,7 @@ ghost use Rattle.tao_base.specs.Queries.{query_shard};
 use crate::needs::{asked_of_read, read_down};
 use cache_items::Look;
 use core_model::{Wanted, masters_are_regions};
-use core_nodes::{FirstLook, Fleet, master_store};
+use core_steps::core_nodes::{FirstLook, Fleet, master_store};
 use core_steps::{Nodes, Route, TierPlace};
 use node_name::NodeName;
 use read_plan::{ReadPlan, ReadResult, ReadStage};

@@ -3,7 +3,7 @@ ghost use Rattle.std.specs.Prelude.{◌≡◌, ◌<◌, Bool, Contains, IfErr, I
 ghost use Rattle.core_model.specs.Consistent.{GoesOn, HaveReached, IsFleetOf};
 ghost use Rattle.core_model.specs.Fleet.{leader_names};
 ghost use Rattle.core_model.specs.Serving.{IsFollowerFor};
-ghost use Rattle.core_nodes.specs.Settling.{IsLaterLink};
+ghost use Rattle.core_steps.specs.core_nodes.Settling.{IsLaterLink};
 ghost use Rattle.core_plans.specs.HeldWrites.{DoesWriteStage, IsAnswerTo, IsWriteUnderWay, call_of_plan};
 ghost use Rattle.core_plans.specs.LedBy.{rules_of};
 ghost use Rattle.core_steps.specs.Relays.{LeaderRelays};

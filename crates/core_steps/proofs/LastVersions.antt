@@ -8,10 +8,10 @@ use Rattle.cache_items.specs.Look.{look_of}
 use Rattle.cache_items.specs.Node.{Node, item_at}
 use Rattle.cache_items.specs.declared.item.Item.{Item}
 use Rattle.cache_items.specs.declared.look.Look.TheVariants.{Hit}
-use Rattle.follower_cache.specs.Seen.{FollowerState}
+use Rattle.core_model.specs.follower_cache.Seen.{FollowerState}
 use Rattle.graph_model.specs.Log.{version}
 use Rattle.graph_model.specs.Told.{WhereTold}
-use Rattle.leader_tier.specs.LeaderReads.{at_floor}
+use Rattle.core_model.specs.leader_tier.LeaderReads.{at_floor}
 use Rattle.node_name.specs.declared.NodeName.{NodeName}
 use Rattle.node_name.specs.declared.NodeName.TheVariants.{Store as StoreName_, Leader, Follower}
 use Rattle.sealed_item.specs.Decided.{content_decides}

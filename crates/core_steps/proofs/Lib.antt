@@ -12,3 +12,5 @@ pub mod StreamLemmas
 pub mod StreamSteps
 pub mod NotifyLemmas
 pub mod WriteLemmas
+pub use Rattle.core_mail.proofs as core_mail_lemmas
+pub use Rattle.core_nodes.proofs as core_nodes_lemmas

@@ -3,7 +3,7 @@ use Rattle.std.proofs.Common.{◌≡◌, Result, Ok, Err, refl, sym, ◌∙◌, 
 use Rattle.std.specs.Prelude.{IfErr, OnErr, OnOk, ⊤}
 use Rattle.counts.proofs.Rises.{Rose-le}
 use Rattle.core_nodes.specs.Settling.{IsLaterLink}
-use Rattle.edge_repair.specs.Carries.{FailsAt}
+use Rattle.core_nodes.specs.edge_repair.Carries.{FailsAt}
 use Rattle.node_name.specs.declared.NodeName.{NodeName}
 use Rattle.tao_link.specs.Shown.{LinkShown, after_carry}
 use Rattle.tao_link.specs.declared.link.Carry.{Carry}

@@ -15,7 +15,7 @@ use Rattle.core_model.specs.Fleet.{ChangesNode, EachIs, Fleet, region_of}
 use Rattle.core_model.specs.Reads.{AsksAtOnce, EndsAsk, KeepsFill, LooksFirst, Wanted, taken_fill, wanted}
 use Rattle.core_model.specs.Stores.{AreStoresOf}
 use Rattle.core_model.specs.Writes.{AppliesTo}
-use Rattle.follower_cache.specs.Seen.{FollowerState}
+use Rattle.core_model.specs.follower_cache.Seen.{FollowerState}
 use Rattle.node_name.specs.declared.NodeName.{NodeName}
 use Rattle.sealed_item.specs.Fills.{SealedItem}
 use Rattle.shard_log.specs.View.{View}

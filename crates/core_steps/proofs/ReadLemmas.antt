@@ -14,10 +14,10 @@ use Rattle.core_model.specs.Reads.{IsGivenAnswer, given_of, wanted}
 use Rattle.core_model.specs.Stores.{AreStoresOf, HaveMasterRegions, IsConfiguredStore, master_log, master_store, store_place}
 use Rattle.core_nodes.proofs.FleetLemmas.{goes_self}
 use Rattle.core_nodes.specs.Settling.{IsLaterLink}
-use Rattle.follower_cache.specs.Seen.{FollowerState}
+use Rattle.core_model.specs.follower_cache.Seen.{FollowerState}
 use Rattle.graph_model.specs.Legal.{IsLegal}
 use Rattle.graph_model.specs.Told.{WhereTold}
-use Rattle.leader_tier.specs.LeaderReads.{at_floor}
+use Rattle.core_model.specs.leader_tier.LeaderReads.{at_floor}
 use Rattle.shard_log.proofs.GrowthLemmas.{grows-trans}
 use Rattle.shard_log.specs.GrowthLaws.{IsLegalIn}
 use Rattle.shard_log.specs.View.{View}

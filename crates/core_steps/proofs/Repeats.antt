@@ -8,14 +8,14 @@ use Rattle.cache_items.specs.declared.item.Item.{Item}
 use Rattle.cache_items.specs.declared.look.Kept.{Kept as KeptWhy}
 use Rattle.cache_items.specs.declared.look.Kept.TheVariants as was
 use Rattle.cache_items.specs.declared.look.Look.TheVariants.{Hit}
-use Rattle.cache_node.proofs.Repeating.{answers_repeat}
+use Rattle.core_model.proofs.cache_node_lemmas.Repeating.{answers_repeat}
 use Rattle.core_model.proofs.NodesSeen.{nodes_stay_seen}
 use Rattle.core_model.specs.Consistent.{IsFleetOf, IsNodeOf}
 use Rattle.core_model.specs.Fleet.{ChangesNode, Fleet}
 use Rattle.core_model.specs.Pens.{Pens, pens_of}
 use Rattle.core_model.specs.Reads.{IsGivenFill, KeepsFill, LooksFirst, Wanted, taken_fill}
 use Rattle.core_model.specs.declared.named.Named.{Named}
-use Rattle.follower_cache.specs.Seen.{FollowerState}
+use Rattle.core_model.specs.follower_cache.Seen.{FollowerState}
 use Rattle.graph_model.specs.Told.{WhereTold}
 use Rattle.node_name.specs.declared.NodeName.{NodeName}
 use Rattle.read_plan.specs.Keeping.{kept_or_not, past_bound}

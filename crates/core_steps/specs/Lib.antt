@@ -9,3 +9,6 @@ pub mod Routes
 pub mod Writes
 pub mod Streams
 pub mod World
+pub use Rattle.core_mail.specs as core_mail
+pub use Rattle.core_nodes.specs as core_nodes
+pub use Rattle.core_nodes.specs.node_stages

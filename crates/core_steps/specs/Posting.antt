@@ -10,7 +10,7 @@ use Rattle.core_model.specs.States.{AreStatesOf}
 use Rattle.core_nodes.specs.Settling.{IsLaterLink}
 use Rattle.core_nodes.specs.Stages.{taken_by}
 use Rattle.graph_model.specs.Told.{WhereTold}
-use Rattle.leader_tier.specs.TakenWrites.{TakesWritten}
+use Rattle.core_model.specs.leader_tier.TakenWrites.{TakesWritten}
 use Rattle.node_name.specs.declared.NodeName.{NodeName}
 use Rattle.shard_log.specs.View.{View}
 use Rattle.tao_base.specs.declared.entry.Entry.{Entry}

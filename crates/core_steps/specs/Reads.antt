@@ -8,7 +8,7 @@ use Rattle.core_model.specs.Reads.{LeaderAnswers, StoreAnswers, StoreCalls, Want
 use Rattle.core_model.specs.Serving.{IsLeaderFor}
 use Rattle.core_model.specs.Stores.{IsConfiguredStore, master_log, master_of}
 use Rattle.core_model.specs.declared.named.Named.{Named}
-use Rattle.follower_cache.specs.Seen.{FollowerState}
+use Rattle.core_model.specs.follower_cache.Seen.{FollowerState}
 use Rattle.graph_model.specs.Legal.{IsLegal}
 use Rattle.graph_model.specs.Told.{WhereTold}
 use Rattle.node_name.specs.declared.NodeName.{NodeName}

@@ -3,7 +3,7 @@ use Rattle.std.specs.Prelude.{ℕ, ◌≡◌, Bool, Option, Some, None}
 use Rattle.core_model.specs.Fleet.{ChangesNode, Fleet, serves}
 use Rattle.core_nodes.specs.Stages.{taken_by}
 use Rattle.node_name.specs.declared.NodeName.{NodeName}
-use Rattle.node_stages.specs.Relays.{RelaysTo}
+use Rattle.core_nodes.specs.node_stages.Relays.{RelaysTo}
 use Rattle.replies.specs.declared.refusals.Refusal.{Refusal}
 use Rattle.replies.specs.declared.refusals.Refusal.TheVariants.{Store, Memory}
 use Rattle.replies.specs.declared.refusals.StoreRefused.TheVariants.{LinkFault}

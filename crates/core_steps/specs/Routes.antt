@@ -1,6 +1,6 @@
 -- What the carries of a call over links do.
 use Rattle.std.specs.Prelude.{ℕ, ◌-◌, Bool, nat_lt}
-use Rattle.edge_repair.specs.Carries.{FailsAt}
+use Rattle.core_nodes.specs.edge_repair.Carries.{FailsAt}
 use Rattle.node_name.specs.declared.NodeName.{NodeName}
 use Rattle.node_name.specs.declared.NodeName.TheVariants.{Store as StoreName_}
 use Rattle.tao_keeper.specs.KeeperState.{KeeperState}

@@ -18,9 +18,9 @@ ghost use Rattle.tao_schema.specs.Schema.{types_of};
 
 use crate::nodes::Nodes;
 use crate::routes::{Route, carry};
+use core_model::leader_tier::at_floor;
 use core_model::{Wanted, master_of, masters_are_regions};
 use core_nodes::master_store;
-use leader_tier::at_floor;
 use node_name::NodeName;
 use replies::{Refusal, StoreRefused, When};
 use shard_tables::{LeaderAnswer, ReadOut};

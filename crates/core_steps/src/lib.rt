@@ -41,6 +41,8 @@ mod routes;
 mod streaming;
 mod writes;
 
+pub use core_nodes;
+pub use core_nodes::node_stages;
 pub use jobs::{JobSender, LearntEntry, learnt_entry_of, learnt_far};
 pub use nodes::Nodes;
 pub use refusals::refilled_as;

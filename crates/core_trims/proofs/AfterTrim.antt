@@ -17,12 +17,12 @@ use Rattle.core_model.specs.Fleet.{Fleet}
 use Rattle.core_model.specs.Growing.{TablesGoOn}
 use Rattle.core_model.specs.Pens.{pens_of}
 use Rattle.core_model.specs.Stores.{IsConfiguredStore, region_store}
-use Rattle.core_nodes.proofs.AskLemmas.{still_consistent}
-use Rattle.core_nodes.proofs.CatchLemmas.{so_before}
-use Rattle.core_nodes.proofs.FleetLemmas.{goes_self}
-use Rattle.core_nodes.proofs.GrowingLemmas.{stays_stores}
-use Rattle.core_nodes.proofs.TrimLemmas.{CutLeaves, cut_stays}
-use Rattle.core_nodes.specs.Trimming.{cut_to, least_mark, names_behind}
+use Rattle.core_steps.proofs.core_nodes_lemmas.AskLemmas.{still_consistent}
+use Rattle.core_steps.proofs.core_nodes_lemmas.CatchLemmas.{so_before}
+use Rattle.core_steps.proofs.core_nodes_lemmas.FleetLemmas.{goes_self}
+use Rattle.core_steps.proofs.core_nodes_lemmas.GrowingLemmas.{stays_stores}
+use Rattle.core_steps.proofs.core_nodes_lemmas.TrimLemmas.{CutLeaves, cut_stays}
+use Rattle.core_steps.specs.core_nodes.Trimming.{cut_to, least_mark, names_behind}
 use Rattle.core_steps.proofs.NotifyLemmas.{arrived_grows}
 use Rattle.core_steps.specs.World.{World, world}
 use Rattle.core_steps.specs.declared.nodes.Nodes.{Nodes}

@@ -29,9 +29,9 @@ use Rattle.core_model.specs.Fleet.{ChangesNode, Fleet, follower_names, leader_na
 use Rattle.core_model.specs.Pens.{Pens, pens_of}
 use Rattle.core_model.specs.Stores.{ComeToCuts, IsConfiguredStore}
 use Rattle.core_model.specs.declared.named.Named.{Named}
-use Rattle.core_nodes.proofs.MadeNames.{in_image}
-use Rattle.core_nodes.specs.Settling.{lies_behind}
-use Rattle.core_nodes.specs.Trimming.{behind_of, cut_to, is_behind, names_behind}
+use Rattle.core_steps.proofs.core_nodes_lemmas.MadeNames.{in_image}
+use Rattle.core_steps.specs.core_nodes.Settling.{lies_behind}
+use Rattle.core_steps.specs.core_nodes.Trimming.{behind_of, cut_to, is_behind, names_behind}
 use Rattle.core_steps.specs.World.{World}
 use Rattle.core_trims.specs.Trims.{AreOfRegion, ResetEach}
 use Rattle.core_model.proofs.NamesOnce.{StandAlone, follower_is_cache, follows_none, in_place, leader_is_cache, leaders_alone, leads_none, stand_alone}

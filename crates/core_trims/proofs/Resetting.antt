@@ -13,10 +13,10 @@ use Rattle.core_model.specs.Evictions.{IsCacheOf}
 use Rattle.core_model.specs.Fleet.{ChangesNode, Fleet, region_of, served_by}
 use Rattle.core_model.specs.Pens.{Pens, pens_of}
 use Rattle.core_model.specs.Stores.{AreStoresOf, region_store, store_length}
-use Rattle.core_nodes.proofs.RestartLemmas.{cache_logs, cache_may, restart_reached}
-use Rattle.core_nodes.proofs.UpLemmas.{empties_stores}
-use Rattle.core_nodes.proofs.FleetLemmas.{goes_self}
-use Rattle.core_nodes.specs.Emptying.{BeginFor, CacheIs, EmptiesThere, IsRestart, MayEmpty}
+use Rattle.core_steps.proofs.core_nodes_lemmas.RestartLemmas.{cache_logs, cache_may, restart_reached}
+use Rattle.core_steps.proofs.core_nodes_lemmas.UpLemmas.{empties_stores}
+use Rattle.core_steps.proofs.core_nodes_lemmas.FleetLemmas.{goes_self}
+use Rattle.core_steps.specs.core_nodes.Emptying.{BeginFor, CacheIs, EmptiesThere, IsRestart, MayEmpty}
 use Rattle.core_steps.proofs.ReadLemmas.{goes_trans}
 use Rattle.core_steps.specs.World.{World}
 use Rattle.core_steps.specs.declared.nodes.Nodes.{Nodes}
@@ -26,7 +26,7 @@ use Rattle.shard_log.specs.View.{View}
 use Rattle.shard_tables.specs.StoreView.{Store}
 use Rattle.tao_keeper.specs.Table.{Stays, Table, Tables}
 use Rattle.topology.specs.Config.{Settings}
-use Rattle.node_stages.specs.declared.standing.Stand.{Stand}
+use Rattle.core_steps.specs.node_stages.declared.standing.Stand.{Stand}
 use Rattle.core_trims.specs.Trims.{AreOfRegion, ArePrepared, AreSteady, IsPrepared, ResetEach, ResetsNode, ResetsOn, names_of}
 use Rattle.core_trims.specs.declared.trims.Reset.{Reset}
 

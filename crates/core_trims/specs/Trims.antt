@@ -8,8 +8,8 @@ use Rattle.core_model.specs.Evictions.{IsCacheOf}
 use Rattle.core_model.specs.Fleet.{ChangesNode, Fleet, region_of}
 use Rattle.core_model.specs.Growing.{TablesGoOn}
 use Rattle.core_model.specs.Pens.{Pens, pens_of}
-use Rattle.core_nodes.specs.Emptying.{IsRestart}
-use Rattle.core_nodes.specs.Trimming.{cut_to, least_mark, names_behind}
+use Rattle.core_steps.specs.core_nodes.Emptying.{IsRestart}
+use Rattle.core_steps.specs.core_nodes.Trimming.{cut_to, least_mark, names_behind}
 use Rattle.core_steps.specs.World.{World}
 use Rattle.core_steps.specs.declared.nodes.Nodes.{Nodes}
 use Rattle.graph_model.specs.Told.{WhereTold}

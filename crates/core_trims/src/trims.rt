@@ -15,8 +15,8 @@ ghost use Rattle.tao_keeper.specs.KeeperState.{CallsKeeper, KeepsTables};
 ghost use Rattle.tao_link.specs.Shown.{LinkShown};
 
 use core_steps::Nodes;
+use core_steps::node_stages::Stand;
 use node_name::NodeName;
-use node_stages::Stand;
 use replies::Trimmed;
 use shard_tables::StoreRefusal;
 use tao_base::StoreName;

@@ -3,8 +3,8 @@ use Rattle.std.proofs.Common.{◌≡◌, ℕ, ◌+◌, ◌<◌, List, [], ◌∷
 use Rattle.std.proofs.Common.{ap, subst, inl, inr, arith}
 use Rattle.std.specs.Prelude.{IsNone, option_to_list}
 use Rattle.tao_base.specs.EdgeTypes.{EdgeTypes}
-use Rattle.cache_items.specs.Delivered.{AreSome}
-use Rattle.cache_items.specs.declared.delivered.DroppedList.{DroppedList}
+use Rattle.cache_node.specs.cache_items.Delivered.{AreSome}
+use Rattle.cache_node.specs.cache_items.declared.delivered.DroppedList.{DroppedList}
 use Rattle.follower_cache.specs.Refills.{Queues, QueuesRow, refill_of}
 use Rattle.follower_cache.specs.declared.queue.Refill.{Refill}
 

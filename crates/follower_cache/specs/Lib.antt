@@ -1,2 +1,3 @@
 pub mod Refills
 pub mod Seen
+pub use Rattle.cache_node.specs as cache_node

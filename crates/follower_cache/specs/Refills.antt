@@ -6,7 +6,7 @@ use Rattle.tao_base.specs.declared.id.Id.{Id}
 use Rattle.tao_base.specs.declared.id.Key.{Key}
 use Rattle.tao_base.specs.declared.id.Key.TheVariants.{Obj, List as Assocs}
 use Rattle.tao_base.specs.declared.query.Query.TheVariants.{AssocRange}
-use Rattle.cache_items.specs.declared.delivered.DroppedList.{DroppedList}
+use Rattle.cache_node.specs.cache_items.declared.delivered.DroppedList.{DroppedList}
 use Rattle.follower_cache.specs.declared.queue.Refill.{Refill}
 
 -- as many edges of the list as were held and ten more, within the bound of its type, at the version that dropped it or above

@@ -1,6 +1,6 @@
 -- How contracts see a follower.
 use Rattle.std.specs.Prelude.{List}
-use Rattle.cache_items.specs.Node.{Node}
+use Rattle.cache_node.specs.cache_items.Node.{Node}
 use Rattle.follower_cache.specs.declared.queue.Refill.{Refill}
 
 -- what contracts see of a follower: its node, and the refills that it has yet to ask for, the oldest first

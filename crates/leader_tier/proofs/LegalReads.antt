@@ -14,13 +14,13 @@ use Rattle.graph_model.specs.Log.{version as version_of}
 use Rattle.graph_model.specs.Told.{WhereTold}
 use Rattle.shard_log.proofs.Beginnings.{begins-self}
 use Rattle.shard_log.specs.View.{Begins, LogName, View}
-use Rattle.sealed_item.proofs.Deciding.{fronts_decide}
-use Rattle.sealed_item.specs.Decided.{IsExactAnswer}
-use Rattle.sealed_item.specs.Fills.{IsSealed, SealedItem}
-use Rattle.cache_items.specs.HandedOn.{HandsOn, IsFrontHeld}
-use Rattle.cache_items.specs.Kept.{item_of}
-use Rattle.cache_items.specs.Node.{Node, item_at}
-use Rattle.cache_items.specs.declared.item.Item.{Item}
+use Rattle.cache_node.proofs.sealed_item_lemmas.Deciding.{fronts_decide}
+use Rattle.cache_node.specs.sealed_item.Decided.{IsExactAnswer}
+use Rattle.cache_node.specs.sealed_item.Fills.{IsSealed, SealedItem}
+use Rattle.cache_node.specs.cache_items.HandedOn.{HandsOn, IsFrontHeld}
+use Rattle.cache_node.specs.cache_items.Kept.{item_of}
+use Rattle.cache_node.specs.cache_items.Node.{Node, item_at}
+use Rattle.cache_node.specs.cache_items.declared.item.Item.{Item}
 use Rattle.cache_node.proofs.Answering.{fill_answers}
 use Rattle.tao_keeper.specs.Table.{Tables}
 use Rattle.shard_tables.specs.ReadOuts.{IsFillFor, IsReadOutOf, read_note}

@@ -6,13 +6,13 @@ use Rattle.tao_base.specs.Queries.{query_key}
 use Rattle.tao_base.specs.declared.query.Query.{Query}
 use Rattle.counts.specs.Count.{Rose}
 use Rattle.graph_model.specs.Told.{WhereTold}
-use Rattle.sealed_item.specs.Decided.{IsWithinBound, content_answer, content_decides}
-use Rattle.sealed_item.specs.Fills.{SealedItem}
-use Rattle.served_shards.specs.Served.{top_at}
-use Rattle.cache_items.specs.HandedOn.{HandsOn, handed_on, with_copy}
-use Rattle.cache_items.specs.Kept.{GivesKept, own_kept_of}
-use Rattle.cache_items.specs.Node.{Node}
-use Rattle.cache_items.specs.declared.look.Kept.{Kept}
+use Rattle.cache_node.specs.sealed_item.Decided.{IsWithinBound, content_answer, content_decides}
+use Rattle.cache_node.specs.sealed_item.Fills.{SealedItem}
+use Rattle.cache_node.specs.served_shards.Served.{top_at}
+use Rattle.cache_node.specs.cache_items.HandedOn.{HandsOn, handed_on, with_copy}
+use Rattle.cache_node.specs.cache_items.Kept.{GivesKept, own_kept_of}
+use Rattle.cache_node.specs.cache_items.Node.{Node}
+use Rattle.cache_node.specs.cache_items.declared.look.Kept.{Kept}
 use Rattle.cache_node.specs.Answered.{ViewAnswers}
 use Rattle.tao_keeper.specs.KeeperState.{KeeperState}
 use Rattle.shard_tables.specs.ReadOuts.{IsReadOutOf, read_note}

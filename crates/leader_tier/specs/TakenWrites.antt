@@ -3,8 +3,8 @@ use Rattle.std.specs.Prelude.{ℕ, ◌≡◌, Bool, if◌then◌else◌, Option,
 use Rattle.tao_base.specs.EdgeTypes.{EdgeTypes}
 use Rattle.tao_base.specs.declared.entry.Entry.{Entry}
 use Rattle.shard_log.specs.View.{View, as_note}
-use Rattle.cache_items.specs.Node.{Node}
-use Rattle.cache_items.specs.TakenEntry.{TakesEntry}
+use Rattle.cache_node.specs.cache_items.Node.{Node}
+use Rattle.cache_node.specs.cache_items.TakenEntry.{TakesEntry}
 use Rattle.shard_tables.specs.StoreView.{Store}
 use Rattle.shard_tables.specs.Written.{LiesOn, StandsIn}
 use Rattle.shard_tables.specs.declared.refusal.StoreRefusal.{StoreRefusal}

@@ -4,26 +4,26 @@ ghost use Rattle.std.specs.Prelude.{IfOk, IfSome, IsSome, OnErr, OnSome};
 ghost use Rattle.std.specs.List.{IsDistinct};
 ghost use Rattle.std.specs.Map.{keys_of as keys_held};
 ghost use Rattle.lru.specs.LruCache.{last_entry};
-ghost use Rattle.ask_table.specs.Asks.{IsTable};
+ghost use Rattle.cache_node.specs.ask_table.Asks.{IsTable};
 ghost use Rattle.tao_base.specs.Queries.{query_key, query_shard};
 ghost use Rattle.tao_base.specs.Keys.{key_shard, same_key};
 ghost use Rattle.graph_model.specs.Log.{entry_at};
 ghost use Rattle.graph_model.specs.Told.{WhereTold};
 ghost use Rattle.tao_schema.specs.Schema.{types_of};
-ghost use Rattle.served_shards.specs.Begun.{AreNotesOf, AreReached, AreToldAlike, begun_at};
-ghost use Rattle.served_shards.specs.Served.{IsLowWater, log_at, low_at, served_at, top_at, view_at};
-ghost use Rattle.cache_items.specs.Delivered.{AreSome, dropped_lists};
-ghost use Rattle.cache_items.specs.HandedOn.{HandsOn, handed_on, with_copy};
-ghost use Rattle.cache_items.specs.Kept.{GivesKept, own_kept_of};
-ghost use Rattle.cache_items.specs.Node.{caught_up, delivered, drop_count, empty_node, emptied, item_at, met, without, without_last};
-ghost use Rattle.cache_items.specs.Taken.{ChangesItems, with_change};
-ghost use Rattle.cache_items.specs.TakenEntry.{AppliesEntry, TakesEntry};
+ghost use Rattle.cache_node.specs.served_shards.Begun.{AreNotesOf, AreReached, AreToldAlike, begun_at};
+ghost use Rattle.cache_node.specs.served_shards.Served.{IsLowWater, log_at, low_at, served_at, top_at, view_at};
+ghost use Rattle.cache_node.specs.cache_items.Delivered.{AreSome, dropped_lists};
+ghost use Rattle.cache_node.specs.cache_items.HandedOn.{HandsOn, handed_on, with_copy};
+ghost use Rattle.cache_node.specs.cache_items.Kept.{GivesKept, own_kept_of};
+ghost use Rattle.cache_node.specs.cache_items.Node.{caught_up, delivered, drop_count, empty_node, emptied, item_at, met, without, without_last};
+ghost use Rattle.cache_node.specs.cache_items.Taken.{ChangesItems, with_change};
+ghost use Rattle.cache_node.specs.cache_items.TakenEntry.{AppliesEntry, TakesEntry};
 ghost use Rattle.cache_node.specs.True.{IsTrueNode};
 
+use cache_node::changeset::Changeset;
+use cache_node::maint_msg::Maint;
+use cache_node::sealed_item::Fill;
 use cache_node::{CacheNode, Delivered, Item, Kept, nodes_are_true};
-use changeset::Changeset;
-use maint_msg::Maint;
-use sealed_item::Fill;
 use shard_log::Note;
 use std::alloc::Global;
 use std::marker::Model;
@@ -37,7 +37,7 @@ pub struct Leader {
 }
 
 impl Model for Leader {
-    ghost use Rattle.cache_items.specs.Node.{Node};
+    ghost use Rattle.cache_node.specs.cache_items.Node.{Node};
 
     ghost Value = { Node };
 

@@ -20,3 +20,4 @@ mod writing;
 pub use cache_node::{Delivered, DroppedList, DroppedLists, Item};
 pub use leader::{Leader, leaders_are_true};
 pub use reading::at_floor;
+pub use shard_tables;

@@ -1,9 +1,9 @@
 //! Reads of a leader.
 ghost use Rattle.std.specs.Prelude.{◌≡◌, IfErr, IfOk, None, OnErr, Some};
 ghost use Rattle.tao_base.specs.Queries.{query_shard};
-ghost use Rattle.cache_items.specs.HandedOn.{HandsOn};
+ghost use Rattle.cache_node.specs.cache_items.HandedOn.{HandsOn};
 ghost use Rattle.leader_tier.specs.LeaderReads.{GivesAnswer, AreAnswersSeen, IsLegalAt, KeepsGiven, ReadsStore, asked_read, at_floor};
-ghost use Rattle.served_shards.specs.Served.{log_at};
+ghost use Rattle.cache_node.specs.served_shards.Served.{log_at};
 ghost use Rattle.shard_tables.specs.ReadOuts.{IsFor, read_note};
 ghost use Rattle.shard_tables.specs.Refusals.{IsOfReads};
 ghost use Rattle.shard_tables.specs.Stores.{IsStoreOf};
@@ -12,7 +12,7 @@ ghost use Rattle.tao_keeper.specs.KeeperState.{CallsKeeper, KeepsTables};
 ghost use Rattle.tao_schema.specs.Schema.{types_of};
 
 use crate::leader::Leader;
-use sealed_item::laws::fills_are_sealed;
+use cache_node::sealed_item::laws::fills_are_sealed;
 use shard_tables::{LeaderAnswer, ReadOut, StoreNode, StoreRefusal};
 use std::alloc::Global;
 use tao_base::Query;

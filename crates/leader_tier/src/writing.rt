@@ -4,7 +4,7 @@ ghost use Rattle.std.specs.Bool.{OnTrue};
 ghost use Rattle.graph_model.specs.Soundness.{IsSoundOf, is_client};
 ghost use Rattle.graph_model.specs.Told.{WhereTold};
 ghost use Rattle.leader_tier.specs.TakenWrites.{MayBeTaken, TakesWritten, taken_entry};
-ghost use Rattle.served_shards.specs.Served.{log_at};
+ghost use Rattle.cache_node.specs.served_shards.Served.{log_at};
 ghost use Rattle.shard_log.specs.View.{as_note};
 ghost use Rattle.shard_tables.specs.Stores.{IsStoreOf};
 ghost use Rattle.shard_tables.specs.WriteDone.{MergeDone, StoreGains, WriteDone, asked_at, asked_merge_at};
@@ -12,7 +12,7 @@ ghost use Rattle.shard_tables.specs.declared.store.StoreRole.TheVariants.{Master
 ghost use Rattle.tao_base.specs.Writes.{ChangesType, write_shard};
 ghost use Rattle.tao_keeper.specs.Given.{HaveSmallRecords};
 ghost use Rattle.tao_schema.specs.Schema.{types_of};
-ghost use Rattle.write_model.specs.MergeLaws.{MayBeMerged};
+ghost use Rattle.shard_tables.specs.write_model.MergeLaws.{MayBeMerged};
 
 use crate::leader::Leader;
 use shard_log::Note;

@@ -3,8 +3,8 @@ use Rattle.std.specs.Prelude.{◌≡◌, ℕ, List, All, Some}
 use Rattle.std.specs.Option.{option_map}
 use Rattle.tao_base.specs.declared.entry.Entry.{Entry}
 use Rattle.tao_base.specs.Keys.{key_shard}
-use Rattle.graph_model.specs.Log.{entry_at}
-use Rattle.graph_model.specs.Told.{WhereTold}
+use Rattle.shard_log.specs.graph_model.Log.{entry_at}
+use Rattle.shard_log.specs.graph_model.Told.{WhereTold}
 use Rattle.shard_log.specs.View.{View}
 use Rattle.maint_msg.specs.KeyVersions.{keys_of}
 use Rattle.maint_msg.specs.declared.key_versions.KeyVersion.{KeyVersion}

@@ -33,9 +33,9 @@ impl Model for Maint {
 impl Maint {
     ghost use Rattle.std.specs.Prelude.{All, Some, length};
     ghost use Rattle.tao_base.specs.Keys.{key_shard};
-    ghost use Rattle.graph_model.specs.Log.{entry_at};
-    ghost use Rattle.graph_model.specs.Soundness.{IsSound};
-    ghost use Rattle.graph_model.specs.Told.{WhereTold};
+    ghost use Rattle.shard_log.specs.graph_model.Log.{entry_at};
+    ghost use Rattle.shard_log.specs.graph_model.Soundness.{IsSound};
+    ghost use Rattle.shard_log.specs.graph_model.Told.{WhereTold};
     ghost use Rattle.shard_log.specs.View.{Grows};
     ghost use Rattle.maint_msg.specs.KeyVersions.{keys_of};
     ghost use Rattle.maint_msg.specs.Maints.{IsMaint, NamesEntry, seen_maint, maint_with_note};

@@ -9,7 +9,7 @@ use Rattle.tao_base.specs.declared.write.Write.{Write}
 use Rattle.write_model.proofs.OpenJobs.{open_jobs_are_owed}
 use Rattle.write_model.specs.Machine.{Gains}
 use Rattle.write_model.specs.Merges.{HasJob, JobSource, job_of, log_of, merge_of, number_in, source_number}
-use Rattle.graph_model.specs.Soundness.{EdgeUpdate}
+use Rattle.tao_keeper.specs.graph_model.Soundness.{EdgeUpdate}
 use Rattle.write_model.specs.Steps.{CommitsWithJob, EndsJob, IsOwed, JobBecomes, JobsStay, MergesJob, opened_job}
 use Rattle.write_model.specs.Writes.{forward_entry}
 use Rattle.tao_keeper.specs.Table.{Becomes, Stays, Table, Tables, after_commit, after_end, job_from, with_new_job}

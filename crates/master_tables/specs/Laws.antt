@@ -5,7 +5,7 @@ use Rattle.tao_base.specs.EdgeTypes.{EdgeTypes}
 use Rattle.tao_base.specs.declared.entry.Entry.{Entry}
 use Rattle.write_model.specs.Machine.{ClientWrite, IsFirstJob}
 use Rattle.write_model.specs.Merges.{HasJob, JobSource, job_of, log_of, merge_of, source_number}
-use Rattle.graph_model.specs.Soundness.{EdgeUpdate}
+use Rattle.tao_keeper.specs.graph_model.Soundness.{EdgeUpdate}
 use Rattle.write_model.specs.Steps.{AreSoundAndCovered, CommitsWithJob, EndsJob, IsJobOf, IsOwed, JobsStay, MergesJob}
 use Rattle.write_model.specs.Writes.{forward_entry}
 use Rattle.tao_keeper.specs.Table.{Becomes, Stays, Tables, IsLeastJob, after_commit, after_end, job_from}

@@ -4,8 +4,8 @@ use Rattle.std.specs.List.{IsDistinct}
 use Rattle.std.specs.Map.{keys_of as keys_held}
 use Rattle.ask_table.specs.Asks.{IsTable}
 use Rattle.cache_items.specs.Node.{Node}
-use Rattle.cache_node.specs.True.{IsTrueNode}
-use Rattle.leader_tier.specs.LeaderReads.{GivesAnswer, asked_read}
+use Rattle.core_model.specs.cache_node.True.{IsTrueNode}
+use Rattle.core_model.specs.leader_tier.LeaderReads.{GivesAnswer, asked_read}
 use Rattle.shard_tables.specs.StoreView.{Store}
 use Rattle.shard_tables.specs.declared.leader_answer.LeaderAnswer.{LeaderAnswer}
 use Rattle.shard_tables.specs.declared.refusal.StoreRefusal.{StoreRefusal}

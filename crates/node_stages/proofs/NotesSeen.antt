@@ -7,7 +7,7 @@ use Rattle.shard_tables.specs.Stores.{HasSeen, seen_by}
 use Rattle.shard_tables.specs.declared.store.StoreRole.{StoreRole}
 use Rattle.shard_tables.specs.declared.store.StoreRole.TheVariants.{Master, Slave}
 use Rattle.tao_base.specs.declared.entry.Entry.{Entry}
-use Rattle.leader_tier.proofs.LegalReads.{role_log}
+use Rattle.core_model.proofs.leader_tier_lemmas.LegalReads.{role_log}
 
 pub role_told : (role : StoreRole) (v : View) → (seen_by role v).log.told ≡ v.log.told
 role_told role v = ap (λ l. l.told) (role_log role v)

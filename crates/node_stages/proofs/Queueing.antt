@@ -2,9 +2,9 @@
 use Rattle.std.proofs.Common.{◌≡◌, List, [], ◌∷◌, ◌++◌, Option, Some, None, refl, ap, sym, ◌∙◌, inl}
 use Rattle.std.specs.Prelude.{IsNone, option_to_list}
 use Rattle.cache_items.specs.declared.delivered.DroppedList.{DroppedList}
-use Rattle.follower_cache.specs.Refills.{Queues, QueuesRow, refill_of}
-use Rattle.follower_cache.specs.Seen.{FollowerState}
-use Rattle.follower_cache.specs.declared.queue.Refill.{Refill}
+use Rattle.core_model.specs.follower_cache.Refills.{Queues, QueuesRow, refill_of}
+use Rattle.core_model.specs.follower_cache.Seen.{FollowerState}
+use Rattle.core_model.specs.follower_cache.declared.queue.Refill.{Refill}
 use Rattle.tao_base.specs.EdgeTypes.{EdgeTypes}
 use Rattle.core_model.specs.Messages.{TakesRefill}
 

@@ -6,9 +6,9 @@ use Rattle.std.specs.Prelude.{All, IfSome, slice_get}
 use Rattle.graph_model.proofs.Rising.{take_with}
 use Rattle.graph_model.specs.Log.{entry_at}
 use Rattle.cache_items.specs.Node.{Node}
-use Rattle.follower_cache.specs.declared.queue.Refill.{Refill}
+use Rattle.core_model.specs.follower_cache.declared.queue.Refill.{Refill}
 use Rattle.graph_model.specs.Told.{WhereTold}
-use Rattle.leader_tier.proofs.LegalReads.{role_log}
+use Rattle.core_model.proofs.leader_tier_lemmas.LegalReads.{role_log}
 use Rattle.served_shards.specs.Served.{IsLowWater, ServedShard, log_at, low_at, served_at}
 use Rattle.shard_log.specs.View.{Begins, LogName, View}
 use Rattle.shard_tables.specs.StoreView.{Store}

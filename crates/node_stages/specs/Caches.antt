@@ -2,10 +2,10 @@
 use Rattle.std.specs.Prelude.{ℕ, ◌≡◌, Bool, List, [], Option}
 use Rattle.cache_items.specs.Delivered.{dropped_lists}
 use Rattle.cache_items.specs.Node.{Node, emptied}
-use Rattle.cache_node.specs.True.{IsTrueNode}
-use Rattle.follower_cache.specs.Refills.{Queues}
-use Rattle.follower_cache.specs.Seen.{FollowerState}
-use Rattle.follower_cache.specs.declared.queue.Refill.{Refill}
+use Rattle.core_model.specs.cache_node.True.{IsTrueNode}
+use Rattle.core_model.specs.follower_cache.Refills.{Queues}
+use Rattle.core_model.specs.follower_cache.Seen.{FollowerState}
+use Rattle.core_model.specs.follower_cache.declared.queue.Refill.{Refill}
 use Rattle.maint_msg.specs.Maints.{SeenMaint}
 use Rattle.shard_log.specs.View.{View}
 use Rattle.tao_base.specs.EdgeTypes.{EdgeTypes}

@@ -1,7 +1,7 @@
 -- A node that processes the rest of a store's log.
 use Rattle.std.specs.Prelude.{ℕ, ◌≡◌, All, Bool, IfSome, List, drop}
 use Rattle.cache_items.specs.Node.{Node}
-use Rattle.follower_cache.specs.declared.queue.Refill.{Refill}
+use Rattle.core_model.specs.follower_cache.declared.queue.Refill.{Refill}
 use Rattle.graph_model.specs.Told.{WhereTold}
 use Rattle.served_shards.specs.Served.{IsLowWater, low_at, served_at}
 use Rattle.shard_tables.specs.StoreView.{Store}

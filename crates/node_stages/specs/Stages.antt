@@ -6,9 +6,9 @@ use Rattle.ask_table.specs.Asks.{IsTable}
 use Rattle.cache_items.specs.Node.{Node}
 use Rattle.cache_items.specs.declared.look.Look.{Look}
 use Rattle.cache_items.specs.declared.look.Look.TheVariants.{Hit, Miss}
-use Rattle.cache_node.specs.Answered.{LookAnswers}
-use Rattle.cache_node.specs.True.{IsTrueNode}
-use Rattle.follower_cache.specs.Seen.{FollowerState}
+use Rattle.core_model.specs.cache_node.Answered.{LookAnswers}
+use Rattle.core_model.specs.cache_node.True.{IsTrueNode}
+use Rattle.core_model.specs.follower_cache.Seen.{FollowerState}
 use Rattle.tao_base.specs.EdgeTypes.{EdgeTypes}
 use Rattle.tao_base.specs.Keys.{same_key}
 use Rattle.tao_base.specs.declared.id.Key.{Key}

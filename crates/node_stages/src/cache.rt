@@ -1,6 +1,6 @@
 //! A leader or a follower as one kind of node: `Cache`.
-use follower_cache::{Follower, Item, followers_are_true};
-use leader_tier::{Leader, leaders_are_true};
+use core_model::follower_cache::{Follower, Item, followers_are_true};
+use core_model::leader_tier::{Leader, leaders_are_true};
 use maint_msg::Maint;
 use shard_log::Note;
 use std::alloc::Global;
@@ -14,9 +14,9 @@ pub trait Cache {
     ghost use Rattle.std.specs.Map.{keys_of as keys_held};
     ghost use Rattle.ask_table.specs.Asks.{IsTable};
     ghost use Rattle.cache_items.specs.Node.{Node, empty_node, item_at};
-    ghost use Rattle.cache_node.specs.True.{IsTrueNode};
+    ghost use Rattle.core_model.specs.cache_node.True.{IsTrueNode};
     ghost use Rattle.core_model.specs.Messages.{Processes};
-    ghost use Rattle.follower_cache.specs.declared.queue.Refill.{Refill};
+    ghost use Rattle.core_model.specs.follower_cache.declared.queue.Refill.{Refill};
     ghost use Rattle.graph_model.specs.Told.{WhereTold};
     ghost use Rattle.node_stages.specs.Caches.{BeginsAs, ChangesAlone, DeliversAs, EvictsAs, IsEmptiedAs};
     ghost use Rattle.node_stages.specs.Catching.{TouchShard};

@@ -7,7 +7,7 @@ ghost use Rattle.served_shards.specs.Served.{log_at};
 ghost use Rattle.tao_schema.specs.Schema.{types_of};
 
 use crate::cache::Cache;
-use follower_cache::{Follower, Refill, followers_are_true};
+use core_model::follower_cache::{Follower, Refill, followers_are_true};
 use maint_msg::Maint;
 use tao_schema::Schema;
 

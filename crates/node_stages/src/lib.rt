@@ -25,6 +25,8 @@ mod writes;
 
 pub use cache::Cache;
 pub use catching::catch_up_with;
+pub use core_model;
+pub use core_model::leader_tier;
 pub use deliveries::{deliver_to, take_refill};
 pub use dropping::{empty_out, evict_from};
 pub use reads::{FirstLook, ask_leader, end_open_ask, keep_fill, look_first, open_true};

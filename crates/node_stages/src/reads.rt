@@ -1,12 +1,12 @@
 //! The stages of a read.
 ghost use Rattle.std.specs.Prelude.{◌≡◌, IfErr, IfOk, IfSome, IsSome, OnErr, Some, true};
 ghost use Rattle.cache_items.specs.Kept.{ask_at as open_ask_at};
-ghost use Rattle.cache_node.specs.Answered.{ViewAnswers};
+ghost use Rattle.core_model.specs.cache_node.Answered.{ViewAnswers};
 ghost use Rattle.core_model.specs.Asked.{settings};
 ghost use Rattle.core_model.specs.Reads.{AsksAtOnce, EndsAsk, KeepsFill, taken_fill, wanted};
-ghost use Rattle.leader_tier.specs.LeaderReads.{GivesAnswer, IsLegalAt, asked_read};
+ghost use Rattle.core_model.specs.leader_tier.LeaderReads.{GivesAnswer, IsLegalAt, asked_read};
 ghost use Rattle.node_stages.specs.Stages.{FollowerDoes, LeaderDoes, LooksTrue, OpensAsk};
-ghost use Rattle.sealed_item.specs.Decided.{content_decides};
+ghost use Rattle.cache_items.specs.sealed_item.Decided.{content_decides};
 ghost use Rattle.served_shards.specs.Served.{log_at, served_at};
 ghost use Rattle.shard_tables.specs.Refusals.{IsOfReads};
 ghost use Rattle.shard_tables.specs.Stores.{IsStoreOf};
@@ -17,10 +17,10 @@ ghost use Rattle.tao_keeper.specs.KeeperState.{CallsKeeper, KeepsTables};
 ghost use Rattle.tao_schema.specs.Schema.{types_of};
 
 use ask_table::AskNo;
+use cache_items::sealed_item::Fill;
+use core_model::follower_cache::{Follower, Kept, Look, followers_are_true};
+use core_model::leader_tier::{Leader, leaders_are_true};
 use core_model::{Around, Wanted};
-use follower_cache::{Follower, Kept, Look, followers_are_true};
-use leader_tier::{Leader, leaders_are_true};
-use sealed_item::Fill;
 use shard_tables::{LeaderAnswer, StoreNode, StoreRefusal};
 use tao_base::{Answer, Key, OutOfMemory, Query};
 use tao_keeper::Keeper;

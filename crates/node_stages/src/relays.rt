@@ -7,7 +7,7 @@ ghost use Rattle.served_shards.specs.Served.{log_at};
 ghost use Rattle.shard_tables.specs.Written.{LiesOn, StandsIn};
 ghost use Rattle.tao_schema.specs.Schema.{types_of};
 
-use leader_tier::{Leader, leaders_are_true};
+use core_model::leader_tier::{Leader, leaders_are_true};
 use shard_log::Note;
 use tao_base::Entry;
 use tao_schema::Schema;

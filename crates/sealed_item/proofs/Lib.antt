@@ -1,2 +1,3 @@
 pub mod Deciding
 pub mod FillLemmas
+pub use Rattle.list_prefix.proofs as list_prefix_lemmas

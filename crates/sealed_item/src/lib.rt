@@ -14,3 +14,5 @@ pub mod laws;
 
 pub use content::Content;
 pub use fill::Fill;
+pub use list_prefix;
+pub use tao_schema;

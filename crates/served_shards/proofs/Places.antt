@@ -5,8 +5,8 @@ use Rattle.std.proofs.lemmas.Bool.{cases_Bool, cases_lt, lt-ltb}
 use Rattle.std.proofs.lemmas.List.Quantifiers.{position-Some}
 use Rattle.std.specs.List.{position_or_len}
 use Rattle.std.specs.Prelude.{◌==◌, IfSome, is_some, map, position}
-use Rattle.graph_model.specs.Soundness.{IsSound}
-use Rattle.graph_model.specs.Told.{WhereTold}
+use Rattle.shard_log.specs.graph_model.Soundness.{IsSound}
+use Rattle.shard_log.specs.graph_model.Told.{WhereTold}
 use Rattle.shard_log.specs.View.{LogName, View, Grows, longer_view}
 use Rattle.served_shards.specs.Fields.{is_of_shard, served_of}
 use Rattle.served_shards.specs.Meetings.{Meets, MeetsAt}

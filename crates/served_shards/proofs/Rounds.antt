@@ -4,9 +4,9 @@ use Rattle.std.proofs.Common.{inr, arith, add-one, append_assoc, drop-cons}
 use Rattle.std.proofs.lemmas.Bool.{cases_lt}
 use Rattle.std.specs.List.{remove}
 use Rattle.std.specs.Prelude.{map, slice_index_or}
-use Rattle.graph_model.proofs.Later.{all_append}
-use Rattle.graph_model.specs.Soundness.{IsSound}
-use Rattle.graph_model.specs.Told.{WhereTold}
+use Rattle.shard_log.proofs.graph_model_lemmas.Later.{all_append}
+use Rattle.shard_log.specs.graph_model.Soundness.{IsSound}
+use Rattle.shard_log.specs.graph_model.Told.{WhereTold}
 use Rattle.shard_log.specs.View.{View}
 use Rattle.low_water.specs.Marks.{marks}
 use Rattle.served_shards.specs.Begun.{AreNotesOf, AreReached, begun_at, restarted}

@@ -1,7 +1,7 @@
 -- The shards that a node begins with, and begins anew.
 use Rattle.std.specs.Prelude.{◌≡◌, ℕ, ⊤, ◌≤◌, Bool, List, [], ◌∷◌, length}
 use Rattle.std.specs.List.{AllByRecursion}
-use Rattle.graph_model.specs.Told.{WhereTold}
+use Rattle.shard_log.specs.graph_model.Told.{WhereTold}
 use Rattle.low_water.specs.Marks.{marks}
 use Rattle.shard_log.specs.View.{View}
 use Rattle.served_shards.specs.Served.{ServedShard, restarting}

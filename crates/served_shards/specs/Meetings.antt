@@ -1,8 +1,8 @@
 -- What is known where a served shard met a note of its log.
 use Rattle.std.specs.Prelude.{◌≡◌, ℕ, ⊤, List, [], ◌∷◌, Some}
 use Rattle.std.specs.List.{AllByRecursion}
-use Rattle.graph_model.specs.Soundness.{IsSound}
-use Rattle.graph_model.specs.Told.{WhereTold}
+use Rattle.shard_log.specs.graph_model.Soundness.{IsSound}
+use Rattle.shard_log.specs.graph_model.Told.{WhereTold}
 use Rattle.shard_log.specs.View.{View, Grows, longer_view}
 use Rattle.served_shards.specs.Served.{ServedShard, served_at}
 

@@ -12,3 +12,4 @@ mod served;
 mod shards;
 
 pub use served::ServedShards;
+pub use shard_log;

@@ -1,7 +1,7 @@
 //! The shards that a node serves, each with its marks and a note of its log.
 ghost use Rattle.std.specs.Prelude.{◌≡◌, [], length, IfOk, IfSome, IsSome, MatchOption, Some, is_some, map, position};
-ghost use Rattle.graph_model.specs.Soundness.{IsSound};
-ghost use Rattle.graph_model.specs.Told.{WhereTold};
+ghost use Rattle.shard_log.specs.graph_model.Soundness.{IsSound};
+ghost use Rattle.shard_log.specs.graph_model.Told.{WhereTold};
 ghost use Rattle.low_water.specs.Marks.{marks};
 ghost use Rattle.served_shards.specs.Served.{IsLowWater, changed_at, forgetting, log_at, low_at, marking, seeing, restarting, served_at, top_at, view_at};
 ghost use Rattle.served_shards.specs.Begun.{AreNotesOf, AreReached, begun_at, restarted};

@@ -8,3 +8,4 @@ pub mod Standing
 pub mod WriteCommits
 pub mod WriteLemmas
 pub mod WriteSteps
+pub use Rattle.master_tables.proofs as master_tables_lemmas

@@ -20,9 +20,9 @@ use Rattle.tao_base.specs.Queries.{query_key}
 use Rattle.graph_model.specs.Edges.{edge_list}
 use Rattle.graph_model.specs.Log.{object, version}
 use Rattle.graph_model.specs.Prefixes.{decides}
-use Rattle.list_prefix.specs.Fronts.{IsFrontFor, IsLeftOpen, IsShortestFront}
-use Rattle.list_prefix.specs.ListPrefix.{ListPrefix, list_prefix}
-use Rattle.list_prefix.specs.Verdicts.{IsOfList}
+use Rattle.sealed_item.specs.list_prefix.Fronts.{IsFrontFor, IsLeftOpen, IsShortestFront}
+use Rattle.sealed_item.specs.list_prefix.ListPrefix.{ListPrefix, list_prefix}
+use Rattle.sealed_item.specs.list_prefix.Verdicts.{IsOfList}
 use Rattle.shard_log.proofs.Beginnings.{begins-length}
 use Rattle.shard_log.specs.View.{View, Begins}
 use Rattle.sealed_item.proofs.Deciding.{contents_answer, fronts_decide}

@@ -10,3 +10,5 @@ pub mod Stores
 pub mod WriteDone
 pub mod WriteSteps
 pub mod Written
+pub use Rattle.master_tables.specs as master_tables
+pub use Rattle.write_model.specs as write_model

@@ -12,7 +12,7 @@ use Rattle.tao_base.specs.declared.query.Query.TheVariants.{ObjGet, AssocGet, As
 use Rattle.tao_base.specs.Queries.{query_key}
 use Rattle.graph_model.specs.Edges.{edge_list}
 use Rattle.graph_model.specs.Log.{object, version as version_of}
-use Rattle.list_prefix.specs.ListPrefix.{ListPrefix, list_prefix}
+use Rattle.sealed_item.specs.list_prefix.ListPrefix.{ListPrefix, list_prefix}
 use Rattle.shard_log.specs.View.{View}
 use Rattle.sealed_item.specs.Decided.{IsContentFront, IsWithinBound, content_decides}
 use Rattle.sealed_item.specs.Fills.{SealedItem}

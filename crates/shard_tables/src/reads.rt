@@ -4,12 +4,12 @@ ghost use Rattle.graph_model.specs.Answers.{answer as log_answer};
 ghost use Rattle.tao_base.specs.Queries.{query_key};
 ghost use Rattle.graph_model.specs.Edges.{IsInListOrder, edge_list};
 ghost use Rattle.graph_model.specs.Told.{WhereTold};
-ghost use Rattle.list_prefix.specs.Verdicts.{IsOfList};
+ghost use Rattle.sealed_item.specs.list_prefix.Verdicts.{IsOfList};
 ghost use Rattle.shard_tables.specs.Reads.{whole_answer};
 ghost use Rattle.tao_keeper.specs.KeeperState.{CallsKeeper, KeepsTables};
 ghost use Rattle.tao_schema.specs.Schema.{types_of};
 
-use list_prefix::{Prefix, Verdict};
+use sealed_item::list_prefix::{Prefix, Verdict};
 use tao_base::{AType, Answer, Edges, Id, Key, OutOfMemory, Query, StoreName};
 use tao_keeper::{KeepFail, Keeper};
 use tao_schema::Schema;

@@ -20,7 +20,7 @@ use Rattle.tao_base.specs.declared.id.Key.{Key}
 use Rattle.tao_base.specs.declared.id.Key.TheVariants.{Obj, List as Assocs}
 use Rattle.tao_base.specs.declared.write.Write.{Write}
 use Rattle.tao_base.specs.declared.write.Write.TheVariants.{ObjAdd, ObjUpdate, ObjDelete, AssocAdd, AssocDelete, AssocChangeType}
-use Rattle.graph_model.proofs.Lists.{eqb-self, eqb-same}
+use Rattle.write_model.proofs.graph_model_lemmas.Lists.{eqb-self, eqb-same}
 use Rattle.write_model.specs.Writes.{FitsWrite, Names}
 use Rattle.tao_base.specs.Writes.{write_kind}
 use Rattle.write_fitting.specs.Fitting.{cuts, drops, is_list, names, puts, same_data, same_pair, sets}

@@ -22,3 +22,4 @@ pub mod Settled
 pub mod Touches
 pub mod Written
 pub mod WrittenRecords
+pub use Rattle.graph_model.proofs as graph_model_lemmas

@@ -2,7 +2,7 @@ use Rattle.std.proofs.Common.{◌∙◌, ap, subst, sym}
 use Rattle.std.specs.Option.{option_copied}
 use Rattle.core_model.specs.Consistent.{GoesOn}
 use Rattle.core_model.specs.Jobs.{IsMergedJob}
-use Rattle.core_nodes.proofs.FleetLemmas.{goes_self}
+use Rattle.core_steps.proofs.core_nodes_lemmas.FleetLemmas.{goes_self}
 use Rattle.core_steps.specs.OtherEnds.{EndsOver}
 use Rattle.core_steps.specs.World.{World, world}
 use Rattle.core_steps.specs.declared.nodes.Nodes.{Nodes}

@@ -2,7 +2,7 @@ use Rattle.std.proofs.Common.{◌∙◌, ap, arith}
 use Rattle.core_model.specs.Fleet.{Fleet}
 use Rattle.core_model.specs.Pens.{pens_of}
 use Rattle.core_model.specs.Emptied.{region_tables}
-use Rattle.core_nodes.proofs.StoreLemmas.{pushed}
+use Rattle.core_steps.proofs.core_nodes_lemmas.StoreLemmas.{pushed}
 use Rattle.tao_keeper.proofs.Later.{keeps_trans}
 use Rattle.core_trims.proofs.Resetting.{prepare_more, prepare_names, restart_back}
 use Rattle.core_trims.proofs.trims.resets_for.Goals as goal

@@ -1,6 +1,6 @@
 use Rattle.std.proofs.Common.{IfOk, ap, subst}
 use Rattle.core_model.specs.Reads.{wanted}
-use Rattle.leader_tier.specs.LeaderReads.{GivesAnswer, IsLegalAt, asked_read}
+use Rattle.core_model.specs.leader_tier.LeaderReads.{GivesAnswer, IsLegalAt, asked_read}
 use Rattle.tao_schema.specs.Schema.{types_of}
 use Rattle.topology.specs.Config.{Settings}
 use Rattle.node_stages.proofs.LeaderGave.{leader_gave}

@@ -1,7 +1,7 @@
 use Rattle.std.proofs.Common.{ap, subst, sym}
 use Rattle.graph_model.specs.Soundness.{IsSoundOf}
 use Rattle.graph_model.specs.Told.{WhereTold}
-use Rattle.leader_tier.specs.TakenWrites.{TakesWritten, taken_entry}
+use Rattle.core_model.specs.leader_tier.TakenWrites.{TakesWritten, taken_entry}
 use Rattle.shard_log.specs.View.{as_note}
 use Rattle.shard_tables.specs.WriteDone.{WriteDone, asked_at}
 use Rattle.tao_base.specs.Writes.{ChangesType}

@@ -1,5 +1,5 @@
 use Rattle.std.proofs.Common.{ap, subst}
-use Rattle.leader_tier.specs.TakenWrites.{TakesWritten, taken_entry}
+use Rattle.core_model.specs.leader_tier.TakenWrites.{TakesWritten, taken_entry}
 use Rattle.shard_log.specs.View.{as_note}
 use Rattle.tao_schema.specs.Schema.{types_of}
 use Rattle.topology.specs.Config.{Settings}

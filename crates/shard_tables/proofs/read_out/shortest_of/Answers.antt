@@ -1,6 +1,6 @@
 use Rattle.std.proofs.Common.{◌≡◌, ◌∙◌, ap, subst, sym, take}
 use Rattle.graph_model.specs.Edges.{IsInListOrder}
-use Rattle.list_prefix.proofs.Changed.{in_order_take}
+use Rattle.sealed_item.proofs.list_prefix_lemmas.Changed.{in_order_take}
 use Rattle.shard_tables.proofs.read_out.shortest_of.Goals as goal
 
 pub of-requires-2-clause-in_order : goal.of-requires-2-clause-in_order

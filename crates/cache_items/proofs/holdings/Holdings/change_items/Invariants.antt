@@ -1,8 +1,8 @@
 use Rattle.std.proofs.Common.{◌≡◌, drop}
 use Rattle.std.specs.Prelude.{map}
 use Rattle.maint_msg.specs.KeyVersions.{key_version}
-use Rattle.shard_log.specs.View.{View}
-use Rattle.tao_schema.specs.Schema.{types_of}
+use Rattle.served_shards.specs.shard_log.View.{View}
+use Rattle.sealed_item.specs.tao_schema.Schema.{types_of}
 use Rattle.cache_items.specs.Node.{Items, raised_all}
 use Rattle.cache_items.specs.TakenEntry.{TakesTouches}
 use Rattle.cache_items.proofs.holdings.Holdings.change_items.Given as goal

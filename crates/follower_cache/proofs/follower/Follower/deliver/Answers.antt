@@ -1,5 +1,5 @@
 use Rattle.std.proofs.Common.{subst}
-use Rattle.cache_items.specs.Delivered.{dropped_lists}
+use Rattle.cache_node.specs.cache_items.Delivered.{dropped_lists}
 use Rattle.tao_schema.specs.Schema.{types_of}
 use Rattle.follower_cache.proofs.Queued.{some_queued}
 use Rattle.follower_cache.specs.Refills.{Queues}

@@ -1,7 +1,7 @@
 use Rattle.std.proofs.Common.{sym, subst, ap, ◌∙◌}
 use Rattle.tao_base.specs.Keys.{key_shard}
 use Rattle.tao_schema.specs.Schema.{types_of}
-use Rattle.served_shards.specs.Served.{log_at}
+use Rattle.cache_node.specs.served_shards.Served.{log_at}
 use Rattle.shard_tables.specs.declared.leader_answer.LeaderAnswer.TheVariants.{Filled, Past, Behind}
 use Rattle.leader_tier.proofs.LegalReads.{handed_out, read_is_at}
 use Rattle.leader_tier.specs.LeaderReads.{IsFillAt}

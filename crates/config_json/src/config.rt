@@ -1,6 +1,6 @@
 //! The configuration line.
 ghost use Rattle.std.specs.Prelude.{◌≡◌, ◌≢◌, Ok, Err, IfOk, IfErr, option_map};
-ghost use Rattle.serde_json.specs.View.{view};
+ghost use Rattle.json_fields.specs.View.{view};
 ghost use Rattle.config_json.specs.Object.{line_object};
 ghost use Rattle.config_json.specs.Config.{in_field, config_of, config_in};
 
@@ -8,8 +8,8 @@ use super::refusal::ConfigRefusal;
 use super::regions::{masters_at, regions_at};
 use super::types::{assocs_at, objects_at};
 use json_fields::fields::{number_or, short_at, strange_at};
-use json_fields::json::parse;
-use serde_json::Value;
+use json_fields::lines::{LineMemory, parse};
+use json_fields::value::Json;
 use std::alloc::{AllocError, Global};
 use tao_base::Text;
 use tao_schema::Schema;
@@ -38,23 +38,28 @@ pub fn read_config(alloc: Global, line: &[u8]) -> Result<Config, ConfigRefusal>
     ensures ok { IfOk result (λ config. config_in line.now ≡ Ok config) }
     ensures refused { IfErr result (λ refusal. refusal ≢ ConfigRefusal.OutOfMemory → config_in line.now ≡ Err refusal) }
 {
-    match line_object(alloc, line)? {
+    let mut memory = LineMemory::new(alloc);
+    match line_object(alloc, &mut memory, line)? {
         Some(value) => config_of(alloc, &value),
         None => Err(bad(alloc, "")),
     }
 }
 
 /// The object that a line is.
-fn line_object(alloc: Global, line: &[u8]) -> Result<Option<Value>, AllocError>
+fn line_object<'t>(
+    alloc: Global,
+    memory: &'t mut LineMemory,
+    line: &'t [u8],
+) -> Result<Option<Json<'t>>, AllocError>
     ensures { IfOk result (λ value. option_map view value ≡ line_object line.now) }
 {
-    match parse(alloc, line)? {
+    match parse(alloc, memory, line)? {
         Some(value) => Ok(value.is_object().then_some(value)),
         None => Ok(None),
     }
 }
 
-fn config_of(alloc: Global, value: &Value) -> Result<Config, ConfigRefusal>
+fn config_of(alloc: Global, value: &Json<'_>) -> Result<Config, ConfigRefusal>
     ensures ok { IfOk result (λ config. config_of (view value.now) ≡ Ok config) }
     ensures refused { IfErr result (λ refusal. refusal ≢ ConfigRefusal.OutOfMemory → config_of (view value.now) ≡ Err refusal) }
 {

@@ -1,12 +1,12 @@
 //! The regions with their tiers, and the masters.
 ghost use Rattle.std.specs.Prelude.{◌≡◌, IfOk, option_map, codes};
-ghost use Rattle.serde_json.specs.View.{view};
+ghost use Rattle.json_fields.specs.View.{view};
 ghost use Rattle.json_fields.specs.Fields.{name_at};
 ghost use Rattle.config_json.specs.Regions.{tier_of, tiers_at, region_of, regions_at, places_of, named_masters, masters_at};
 
 use json_fields::fields::{has_only, short_or, text_at};
 use json_fields::items::{ItemReader, TextReader, each_at};
-use serde_json::Value;
+use json_fields::value::Json;
 use std::alloc::{AllocError, Global};
 use tao_base::Text;
 use topology::regions::MAX_LEADERS;
@@ -20,7 +20,7 @@ const DEFAULT_LEADERS: u16 = 1;
 const DEFAULT_FOLLOWERS: u16 = 1;
 
 /// The name of a region or a tier.
-fn read_name(alloc: Global, value: &Value) -> Result<Option<Name>, AllocError>
+fn read_name(alloc: Global, value: &Json<'_>) -> Result<Option<Name>, AllocError>
     ensures { IfOk result (λ name. name ≡ name_at (codes "name") (view value.now)) }
 {
     match text_at(value, "name") {
@@ -35,7 +35,7 @@ struct TierReader;
 impl ItemReader<Tier> for TierReader {
     ghost said = { tier_of };
 
-    fn read(alloc: Global, value: &Value) -> Result<Option<Tier>, AllocError> {
+    fn read(alloc: Global, value: &Json<'_>) -> Result<Option<Tier>, AllocError> {
         let Some(name) = read_name(alloc, value)? else {
             return Ok(None);
         };
@@ -47,7 +47,7 @@ impl ItemReader<Tier> for TierReader {
     }
 }
 
-fn tiers_at(alloc: Global, value: &Value) -> Result<Option<Tiers>, AllocError>
+fn tiers_at(alloc: Global, value: &Json<'_>) -> Result<Option<Tiers>, AllocError>
     ensures { IfOk result (λ tiers. tiers ≡ tiers_at (view value.now)) }
 {
     match each_at::<Tier, TierReader>(alloc, value, "tiers")? {
@@ -62,7 +62,7 @@ struct RegionReader;
 impl ItemReader<Region> for RegionReader {
     ghost said = { region_of };
 
-    fn read(alloc: Global, value: &Value) -> Result<Option<Region>, AllocError> {
+    fn read(alloc: Global, value: &Json<'_>) -> Result<Option<Region>, AllocError> {
         let Some(name) = read_name(alloc, value)? else {
             return Ok(None);
         };
@@ -82,7 +82,7 @@ impl ItemReader<Region> for RegionReader {
 }
 
 /// The regions of a configuration.
-pub(crate) fn regions_at(alloc: Global, value: &Value) -> Result<Option<Regions>, AllocError>
+pub(crate) fn regions_at(alloc: Global, value: &Json<'_>) -> Result<Option<Regions>, AllocError>
     ensures { IfOk result (λ regions. regions ≡ regions_at (view value.now)) }
 {
     match each_at::<Region, RegionReader>(alloc, value, "regions")? {
@@ -94,7 +94,7 @@ pub(crate) fn regions_at(alloc: Global, value: &Value) -> Result<Option<Regions>
 /// The masters of a configuration of these regions: the first alone where none are given.
 pub(crate) fn masters_at(
     alloc: Global,
-    value: &Value,
+    value: &Json<'_>,
     regions: &Regions,
 ) -> Result<Option<MasterRegions>, AllocError>
     ensures { IfOk result (λ masters. masters ≡ masters_at regions.now (view value.now)) }
@@ -107,7 +107,7 @@ pub(crate) fn masters_at(
 
 fn named_masters(
     alloc: Global,
-    value: &Value,
+    value: &Json<'_>,
     regions: &Regions,
 ) -> Result<Option<MasterRegions>, AllocError>
     ensures { IfOk result (λ masters. masters ≡ named_masters regions.now (view value.now)) }

@@ -1,14 +1,14 @@
 //! The object types and the association types.
 ghost use Rattle.std.specs.Prelude.{◌≡◌, IfOk, option_map};
 ghost use Rattle.std.specs.Result.{result_ok};
-ghost use Rattle.serde_json.specs.View.{view};
+ghost use Rattle.json_fields.specs.View.{view};
 ghost use Rattle.tao_schema.specs.AssocTypes.{assocs_of};
 ghost use Rattle.tao_schema.specs.ObjectTypes.{objects_of};
 ghost use Rattle.config_json.specs.Types.{objects_at, assoc_of, assocs_at};
 
 use json_fields::fields::{has_only, maybe_text_at, number_or, text_at};
 use json_fields::items::{ItemReader, TextReader, each_at};
-use serde_json::Value;
+use json_fields::value::Json;
 use std::alloc::{AllocError, Global};
 use tao_base::Text;
 use tao_schema::{AssocLine, AssocTypes, MAX_BOUND, ObjectTypes, SchemaRefusal};
@@ -17,7 +17,7 @@ use tao_schema::{AssocLine, AssocTypes, MAX_BOUND, ObjectTypes, SchemaRefusal};
 const DEFAULT_BOUND: u64 = 6_000;
 
 /// The object types of a configuration.
-pub(crate) fn objects_at(alloc: Global, value: &Value) -> Result<Option<ObjectTypes>, AllocError>
+pub(crate) fn objects_at(alloc: Global, value: &Json<'_>) -> Result<Option<ObjectTypes>, AllocError>
     ensures { IfOk result (λ types. types ≡ objects_at (view value.now)) }
 {
     match each_at::<Text, TextReader>(alloc, value, "objects")? {
@@ -43,7 +43,7 @@ struct AssocReader;
 impl ItemReader<AssocLine> for AssocReader {
     ghost said = { assoc_of };
 
-    fn read(alloc: Global, value: &Value) -> Result<Option<AssocLine>, AllocError> {
+    fn read(alloc: Global, value: &Json<'_>) -> Result<Option<AssocLine>, AllocError> {
         let Some(name) = text_at(value, "name") else {
             return Ok(None);
         };
@@ -72,7 +72,7 @@ fn copy_of(alloc: Global, text: Option<&str>) -> Result<Option<Text>, AllocError
 }
 
 /// The association types of a configuration.
-pub(crate) fn assocs_at(alloc: Global, value: &Value) -> Result<Option<AssocTypes>, AllocError>
+pub(crate) fn assocs_at(alloc: Global, value: &Json<'_>) -> Result<Option<AssocTypes>, AllocError>
     ensures { IfOk result (λ types. types ≡ assocs_at (view value.now)) }
 {
     match each_at::<AssocLine, AssocReader>(alloc, value, "assocs")? {

@@ -1,0 +1,3 @@
+pub mod MemberPlaces
+pub mod Strange
+pub mod TokenSteps

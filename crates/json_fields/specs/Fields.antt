@@ -3,7 +3,7 @@ use Rattle.std.specs.Prelude.{ℕ, ◌&&◌, ◌==◌, not, Bool, true, false, n
 use Rattle.std.specs.Prelude.{is_some, if◌then◌else◌}
 use Rattle.std.specs.Bool.{then_some}
 use Rattle.std.specs.List.{list_any}
-use Rattle.serde_json.specs.Data.{Data, object, Items, no_items, item, Members, no_members, member}
+use Rattle.serde_json.specs.Data.{Data, object, Items, Members, no_members, member}
 use Rattle.serde_json.specs.Find.{get, as_number, as_u64, as_str, as_bool, as_object, as_array}
 use Rattle.outcomes.specs.Options.{◌>>=◌}
 use Rattle.tao_base.specs.Ids.{serial_of}
@@ -56,11 +56,6 @@ text_of (Some d) = option_map Some (as_str d)
 abbrev pub maybe_text_at : List ℕ → Data → Option (Option (List ℕ))
 maybe_text_at name d = text_of (get name d)
 
--- the second text is given and is the first one
-abbrev pub is_text : List ℕ → Option (List ℕ) → Bool
-is_text text None = false
-is_text text (Some other) = bytes_eq text other
-
 -- a flag that may be left out: true or false where it is given
 abbrev pub flag_of : Option Data → Option (Option Bool)
 flag_of None = Some None
@@ -69,22 +64,6 @@ flag_of (Some d) = option_map Some (as_bool d)
 -- the flag of that name
 abbrev pub flag_at : List ℕ → Data → Option (Option Bool)
 flag_at name d = flag_of (get name d)
-
--- each member is a text
-abbrev pub are_texts : Members → Bool
-are_texts no_members = true
-are_texts (member key d ms) = is_some (as_str d) && are_texts ms
-
--- an object of texts
-abbrev pub texts_at : List ℕ → Data → Option Members
-texts_at name d = do
-  ms ← option_and_then as_object (get name d)
-  then_some (are_texts ms) ms
-
--- the object of these members is empty
-abbrev pub has_none : Members → Bool
-has_none no_members = true
-has_none (member key d ms) = false
 
 -- each member has one of these names
 abbrev pub are_named : List (List ℕ) → Members → Bool
@@ -114,18 +93,6 @@ object_at name d = do
 -- the items of an array
 abbrev pub items_at : List ℕ → Data → Option Items
 items_at name d = option_and_then as_array (get name d)
-
--- the item, where there is one alone
-abbrev pub only_item : Items → Option Data
-only_item no_items = None
-only_item (item d no_items) = Some d
-only_item (item d (item e ds)) = None
-
--- the one item of an array
-abbrev pub only_at : List ℕ → Data → Option Data
-only_at name d = do
-  ds ← option_and_then as_array (get name d)
-  only_item ds
 
 -- a text that is a name
 abbrev pub name_of : Data → Option (List ℕ)

@@ -1,3 +1,5 @@
+pub mod View
+pub mod Members
 pub mod Fields
 pub mod Items
 pub mod Json

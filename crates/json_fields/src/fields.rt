@@ -2,17 +2,16 @@
 //! another kind.
 ghost use Rattle.std.specs.Prelude.{◌≡◌, ◌-◌, ◌^◌, option_map, map, bytes_eq};
 ghost use Rattle.std.specs.List.{list_any};
-ghost use Rattle.serde_json.specs.View.{view, members_view, items_view};
-ghost use Rattle.serde_json.specs.Find.{as_str};
-ghost use Rattle.json_fields.specs.Fields.{is_text, number_at, maybe_number_at, number_or, id_of, id_at, maybe_id_at, text_at, maybe_text_at};
-ghost use Rattle.json_fields.specs.Fields.{flag_at, are_texts, texts_at, has_none, are_named, has_only, strange_at, first_strange, items_at};
-ghost use Rattle.json_fields.specs.Fields.{object_at, only_item, only_at, name_of, name_at};
+ghost use Rattle.json_fields.specs.View.{view, members_view, items_view};
+ghost use Rattle.json_fields.specs.Fields.{number_at, maybe_number_at, number_or, id_of, id_at, maybe_id_at, text_at, maybe_text_at};
+ghost use Rattle.json_fields.specs.Fields.{flag_at, are_named, has_only, strange_at, first_strange, items_at, object_at, name_of, name_at};
 
-use serde_json::{Map, Value};
+use crate::members::is_same;
+use crate::value::{Json, Member};
 use tao_base::{Id, is_name};
 
 /// A whole number from `least` to `most`.
-pub fn number_at(value: &Value, name: &str, least: u64, most: u64) -> Option<u64>
+pub fn number_at(value: &Json<'_>, name: &str, least: u64, most: u64) -> Option<u64>
     ensures { result ≡ number_at name.now least most (view value.now) }
 {
     let number = value.get(name)?.as_u64()?;
@@ -20,7 +19,7 @@ pub fn number_at(value: &Value, name: &str, least: u64, most: u64) -> Option<u64
 }
 
 /// A whole number of 32 bits, at least `least`.
-pub fn small_at(value: &Value, name: &str, least: u32) -> Option<u32>
+pub fn small_at(value: &Json<'_>, name: &str, least: u32) -> Option<u32>
     ensures { result ≡ number_at name.now least (2 ^ 32 - 1) (view value.now) }
 {
     let number = u32::try_from(value.get(name)?.as_u64()?).ok()?;
@@ -28,7 +27,7 @@ pub fn small_at(value: &Value, name: &str, least: u32) -> Option<u32>
 }
 
 /// A whole number of 16 bits, from `least` to `most`.
-pub fn short_at(value: &Value, name: &str, least: u16, most: u16) -> Option<u16>
+pub fn short_at(value: &Json<'_>, name: &str, least: u16, most: u16) -> Option<u16>
     ensures { result ≡ number_at name.now least most (view value.now) }
 {
     let number = u16::try_from(value.get(name)?.as_u64()?).ok()?;
@@ -36,7 +35,7 @@ pub fn short_at(value: &Value, name: &str, least: u16, most: u16) -> Option<u16>
 }
 
 /// A whole number from `least` to `most`; the default where it is missing.
-pub fn number_or(value: &Value, name: &str, default: u64, least: u64, most: u64) -> Option<u64>
+pub fn number_or(value: &Json<'_>, name: &str, default: u64, least: u64, most: u64) -> Option<u64>
     ensures { result ≡ number_or name.now default least most (view value.now) }
 {
     match value.get(name) {
@@ -46,7 +45,7 @@ pub fn number_or(value: &Value, name: &str, default: u64, least: u64, most: u64)
 }
 
 /// A whole number of 16 bits, from `least` to `most`; the default where it is missing.
-pub fn short_or(value: &Value, name: &str, default: u16, least: u16, most: u16) -> Option<u16>
+pub fn short_or(value: &Json<'_>, name: &str, default: u16, least: u16, most: u16) -> Option<u16>
     ensures { result ≡ number_or name.now default least most (view value.now) }
 {
     match value.get(name) {
@@ -56,7 +55,7 @@ pub fn short_or(value: &Value, name: &str, default: u16, least: u16, most: u16) 
 }
 
 /// A whole number from `least` to `most` that may be missing.
-pub fn maybe_number_at(value: &Value, name: &str, least: u64, most: u64) -> Option<Option<u64>>
+pub fn maybe_number_at(value: &Json<'_>, name: &str, least: u64, most: u64) -> Option<Option<u64>>
     ensures { result ≡ maybe_number_at name.now least most (view value.now) }
 {
     match value.get(name) {
@@ -66,7 +65,7 @@ pub fn maybe_number_at(value: &Value, name: &str, least: u64, most: u64) -> Opti
 }
 
 /// A whole number of 32 bits, at least `least`, that may be missing.
-pub fn maybe_small_at(value: &Value, name: &str, least: u32) -> Option<Option<u32>>
+pub fn maybe_small_at(value: &Json<'_>, name: &str, least: u32) -> Option<Option<u32>>
     ensures { result ≡ maybe_number_at name.now least (2 ^ 32 - 1) (view value.now) }
 {
     match value.get(name) {
@@ -76,21 +75,21 @@ pub fn maybe_small_at(value: &Value, name: &str, least: u32) -> Option<Option<u3
 }
 
 /// The id that a value is: a whole number whose serial isn't 0.
-pub fn id_of(value: &Value) -> Option<Id>
+pub fn id_of(value: &Json<'_>) -> Option<Id>
     ensures { result ≡ id_of (view value.now) }
 {
     Id::read(value.as_u64()?)
 }
 
 /// An id, whose serial isn't 0.
-pub fn id_at(value: &Value, name: &str) -> Option<Id>
+pub fn id_at(value: &Json<'_>, name: &str) -> Option<Id>
     ensures { result ≡ id_at name.now (view value.now) }
 {
     Id::read(value.get(name)?.as_u64()?)
 }
 
 /// An id that may be missing.
-pub fn maybe_id_at(value: &Value, name: &str) -> Option<Option<Id>>
+pub fn maybe_id_at(value: &Json<'_>, name: &str) -> Option<Option<Id>>
     ensures { result ≡ maybe_id_at name.now (view value.now) }
 {
     match value.get(name) {
@@ -100,14 +99,14 @@ pub fn maybe_id_at(value: &Value, name: &str) -> Option<Option<Id>>
 }
 
 /// A text.
-pub fn text_at<'v>(value: &'v Value, name: &str) -> Option<&'v str>
+pub fn text_at<'v>(value: &'v Json<'_>, name: &str) -> Option<&'v str>
     ensures { option_map (λ t. t.now) result ≡ text_at name.now (view value.now) }
 {
     value.get(name)?.as_str()
 }
 
 /// A text that may be missing.
-pub fn maybe_text_at<'v>(value: &'v Value, name: &str) -> Option<Option<&'v str>>
+pub fn maybe_text_at<'v>(value: &'v Json<'_>, name: &str) -> Option<Option<&'v str>>
     ensures { option_map (option_map (λ t. t.now)) result ≡ maybe_text_at name.now (view value.now) }
 {
     match value.get(name) {
@@ -116,15 +115,8 @@ pub fn maybe_text_at<'v>(value: &'v Value, name: &str) -> Option<Option<&'v str>
     }
 }
 
-/// Whether a value is this text.
-pub fn is_text(value: &Value, text: &str) -> bool
-    ensures { result ≡ is_text text.now (as_str (view value.now)) }
-{
-    value.as_str() == Some(text)
-}
-
 /// A flag that may be missing.
-pub fn flag_at(value: &Value, name: &str) -> Option<Option<bool>>
+pub fn flag_at(value: &Json<'_>, name: &str) -> Option<Option<bool>>
     ensures { result ≡ flag_at name.now (view value.now) }
 {
     match value.get(name) {
@@ -133,31 +125,9 @@ pub fn flag_at(value: &Value, name: &str) -> Option<Option<bool>>
     }
 }
 
-/// An object of texts.
-pub fn texts_at<'v>(value: &'v Value, name: &str) -> Option<&'v Map<String, Value>>
-    ensures { option_map (λ ms. members_view ms.now.entries) result
-        ≡ texts_at name.now (view value.now) }
-{
-    let members = value.get(name)?.as_object()?;
-    are_texts(members).then_some(members)
-}
-
-fn are_texts(members: &Map<String, Value>) -> bool
-    ensures { result ≡ are_texts (members_view members.now.entries) }
-{
-    members.values().all(Value::is_string)
-}
-
-/// Whether an object has no member.
-pub fn has_none(members: &Map<String, Value>) -> bool
-    ensures { result ≡ has_none (members_view members.now.entries) }
-{
-    members.is_empty()
-}
-
 /// Whether a value is an object whose members have these names alone. Compares each member with each
 /// name.
-pub fn has_only(value: &Value, names: &[&str]) -> bool
+pub fn has_only(value: &Json<'_>, names: &[&str]) -> bool
     ensures { result ≡ has_only (map (λ n. n.now) names.now) (view value.now) }
 {
     match value.as_object() {
@@ -166,27 +136,26 @@ pub fn has_only(value: &Value, names: &[&str]) -> bool
     }
 }
 
-fn are_named(members: &Map<String, Value>, names: &[&str]) -> bool
-    ensures { result ≡ are_named (map (λ n. n.now) names.now) (members_view members.now.entries) }
+fn are_named(members: &[Member<'_>], names: &[&str]) -> bool
+    ensures { result ≡ are_named (map (λ n. n.now) names.now) (members_view members.now) }
 {
-    members.keys().all(|key| names.contains(&key.as_str()))
+    first_strange(members, names).is_none()
 }
 
 /// The least member, in order of bytes, that has another name than these. Compares each member with
 /// each name.
-pub fn strange_at<'v>(value: &'v Value, names: &[&str]) -> Option<&'v str>
+pub fn strange_at<'v>(value: &'v Json<'_>, names: &[&str]) -> Option<&'v str>
     ensures { option_map (λ t. t.now) result ≡ strange_at (map (λ n. n.now) names.now) (view value.now) }
 {
     first_strange(value.as_object()?, names)
 }
 
-fn first_strange<'v>(members: &'v Map<String, Value>, names: &[&str]) -> Option<&'v str>
-    ensures { option_map (λ t. t.now) result ≡ first_strange (map (λ n. n.now) names.now) (members_view members.now.entries) }
+fn first_strange<'v>(members: &'v [Member<'_>], names: &[&str]) -> Option<&'v str>
+    ensures { option_map (λ t. t.now) result ≡ first_strange (map (λ n. n.now) names.now) (members_view members.now) }
 {
-    for (key, _value) in members {
-        let name = key.as_str();
-        if !is_among(names, name) {
-            return Some(name);
+    for member in members {
+        if !is_among(names, member.0) {
+            return Some(member.0);
         }
     }
     None
@@ -196,7 +165,7 @@ fn is_among(names: &[&str], key: &str) -> bool
     ensures { result ≡ list_any (λ name. bytes_eq name key.now) (map (λ n. n.now) names.now) }
 {
     for name in names {
-        if *name == key {
+        if is_same(name, key) {
             return true;
         }
     }
@@ -204,7 +173,7 @@ fn is_among(names: &[&str], key: &str) -> bool
 }
 
 /// An object.
-pub fn object_at<'v>(value: &'v Value, name: &str) -> Option<&'v Value>
+pub fn object_at<'v, 't>(value: &'v Json<'t>, name: &str) -> Option<&'v Json<'t>>
     ensures { option_map (λ v. view v.now) result ≡ object_at name.now (view value.now) }
 {
     let inner = value.get(name)?;
@@ -212,38 +181,21 @@ pub fn object_at<'v>(value: &'v Value, name: &str) -> Option<&'v Value>
 }
 
 /// The items of an array.
-pub fn items_at<'v>(value: &'v Value, name: &str) -> Option<&'v [Value]>
+pub fn items_at<'v, 't>(value: &'v Json<'t>, name: &str) -> Option<&'v [Json<'t>]>
     ensures { option_map (λ v. items_view v.now) result ≡ items_at name.now (view value.now) }
 {
-    Some(value.get(name)?.as_array()?.as_slice())
-}
-
-/// The one item of an array.
-pub fn only_at<'v>(value: &'v Value, name: &str) -> Option<&'v Value>
-    ensures { option_map (λ v. view v.now) result ≡ only_at name.now (view value.now) }
-{
-    only_item(value.get(name)?.as_array()?)
-}
-
-fn only_item(items: &[Value]) -> Option<&Value>
-    ensures { option_map (λ v. view v.now) result ≡ only_item (items_view items.now) }
-{
-    match items {
-        [] => None,
-        [only] => Some(only),
-        [_, _, ..] => None,
-    }
+    value.get(name)?.as_array()
 }
 
 /// A name: 1 to 16 bytes of small letters, digits and underscores.
-pub fn name_at<'v>(value: &'v Value, name: &str) -> Option<&'v str>
+pub fn name_at<'v>(value: &'v Json<'_>, name: &str) -> Option<&'v str>
     ensures { option_map (λ t. t.now) result ≡ name_at name.now (view value.now) }
 {
     name_of(value.get(name)?)
 }
 
 /// The name that a value is.
-pub fn name_of(value: &Value) -> Option<&str>
+pub fn name_of<'v>(value: &'v Json<'_>) -> Option<&'v str>
     ensures { option_map (λ t. t.now) result ≡ name_of (view value.now) }
 {
     let text = value.as_str()?;

@@ -2,12 +2,12 @@
 ghost use Rattle.std.specs.Prelude.{◌≡◌, Option, IfOk, option_map};
 ghost use Rattle.serde_json.specs.Data.{Data};
 ghost use Rattle.serde_json.specs.Find.{as_str};
-ghost use Rattle.serde_json.specs.View.{view, items_view};
+ghost use Rattle.json_fields.specs.View.{view, items_view};
 ghost use Rattle.json_fields.specs.Fields.{id_of};
 ghost use Rattle.json_fields.specs.Items.{each, each_at};
 
 use crate::fields::{id_of, items_at};
-use serde_json::Value;
+use crate::value::Json;
 use std::alloc::{AllocError, Global};
 use tao_base::{Id, Text};
 
@@ -17,7 +17,7 @@ pub trait ItemReader<T> {
     ghost said: { Data → Option T };
 
     /// What the value says: nothing where it is of another kind or breaks a rule.
-    fn read(alloc: Global, value: &Value) -> Result<Option<T>, AllocError>
+    fn read(alloc: Global, value: &Json<'_>) -> Result<Option<T>, AllocError>
         ensures { IfOk result (λ read. read ≡ said (view value.now)) };
 }
 
@@ -27,7 +27,7 @@ pub struct IdReader;
 impl ItemReader<Id> for IdReader {
     ghost said = { id_of };
 
-    fn read(_alloc: Global, value: &Value) -> Result<Option<Id>, AllocError> {
+    fn read(_alloc: Global, value: &Json<'_>) -> Result<Option<Id>, AllocError> {
         Ok(id_of(value))
     }
 }
@@ -38,7 +38,7 @@ pub struct TextReader;
 impl ItemReader<Text> for TextReader {
     ghost said = { as_str };
 
-    fn read(alloc: Global, value: &Value) -> Result<Option<Text>, AllocError> {
+    fn read(alloc: Global, value: &Json<'_>) -> Result<Option<Text>, AllocError> {
         match value.as_str() {
             Some(text) => Ok(Some(Text::copy_of(alloc, text)?)),
             None => Ok(None),
@@ -49,7 +49,7 @@ impl ItemReader<Text> for TextReader {
 /// What the items of an array say: nothing where it is no array or one of them says nothing.
 pub fn each_at<T: Drop, R: ItemReader<T>>(
     alloc: Global,
-    value: &Value,
+    value: &Json<'_>,
     name: &str,
 ) -> Result<Option<Vec<T>>, AllocError>
     ensures { IfOk result (λ read. option_map (λ v. v.items) read ≡ each_at R.said name.now (view value.now)) }
@@ -62,11 +62,11 @@ pub fn each_at<T: Drop, R: ItemReader<T>>(
 
 fn each<T: Drop, R: ItemReader<T>>(
     alloc: Global,
-    items: &[Value],
+    items: &[Json<'_>],
 ) -> Result<Option<Vec<T>>, AllocError>
     ensures { IfOk result (λ read. option_map (λ v. v.items) read ≡ each R.said (items_view items.now)) }
 {
-    let mut read = Vec::new(alloc);
+    let mut read = Vec::with_capacity(alloc, items.len())?;
     for item in items {
         match R::read(alloc, item)? {
             Some(one) => read.push(one)?,

@@ -9,4 +9,8 @@
 
 pub mod fields;
 pub mod items;
-pub mod json;
+pub mod lines;
+mod members;
+mod numbers;
+mod reading;
+pub mod value;

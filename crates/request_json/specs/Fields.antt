@@ -2,7 +2,7 @@
 use Rattle.std.specs.Prelude.{ℕ, Bool, false, List, [], ◌∷◌, Option, None, Some, option_map, option_and_then, unwrap_or, codes, Result, Ok, Err, ⊤}
 use Rattle.serde_json.specs.Data.{Data}
 use Rattle.serde_json.specs.Find.{as_object}
-use Rattle.serde_json.specs.View.{view}
+use Rattle.json_fields.specs.View.{view}
 use Rattle.json_fields.specs.Fields.{number_at, maybe_number_at, id_of, id_at, maybe_id_at, text_at, maybe_text_at, flag_at, object_at, strange_at}
 use Rattle.tao_base.specs.declared.data.Pair.{Pair}
 use Rattle.tao_base.specs.Data.{in_order}

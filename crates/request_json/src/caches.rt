@@ -13,7 +13,7 @@ use words::DeliveryWord;
 
 // ---- messages
 
-fn message_of(fields: &Fields<'_>) -> Result<MessageName, LineRefusal>
+fn message_of(fields: &Fields<'_, '_>) -> Result<MessageName, LineRefusal>
     ensures { Gives unless_memory result (message_of (said fields.now)) }
 {
     let message = MessageName {
@@ -26,7 +26,7 @@ fn message_of(fields: &Fields<'_>) -> Result<MessageName, LineRefusal>
 
 pub(crate) fn delivery_of(
     word: DeliveryWord,
-    fields: &Fields<'_>,
+    fields: &Fields<'_, '_>,
 ) -> Result<CacheRequest, LineRefusal>
     ensures { Gives unless_memory result (delivery_of word (said fields.now)) }
 {
@@ -36,13 +36,13 @@ pub(crate) fn delivery_of(
     }
 }
 
-pub(crate) fn drop_of(fields: &Fields<'_>) -> Result<CacheRequest, LineRefusal>
+pub(crate) fn drop_of(fields: &Fields<'_, '_>) -> Result<CacheRequest, LineRefusal>
     ensures { Gives unless_memory result (drop_of (said fields.now)) }
 {
     message_of(fields).map(CacheRequest::Drop)
 }
 
-pub(crate) fn inbox_of(fields: &Fields<'_>) -> Result<CacheRequest, LineRefusal>
+pub(crate) fn inbox_of(fields: &Fields<'_, '_>) -> Result<CacheRequest, LineRefusal>
     ensures { Gives unless_memory result (inbox_of (said fields.now)) }
 {
     node_of(fields).map(|node| CacheRequest::Inbox { node })
@@ -50,7 +50,7 @@ pub(crate) fn inbox_of(fields: &Fields<'_>) -> Result<CacheRequest, LineRefusal>
 
 // ---- items
 
-pub(crate) fn refilling_of(fields: &Fields<'_>) -> Result<CacheRequest, LineRefusal>
+pub(crate) fn refilling_of(fields: &Fields<'_, '_>) -> Result<CacheRequest, LineRefusal>
     ensures { Gives unless_memory result (refilling_of (said fields.now)) }
 {
     node_of(fields).map(|node| CacheRequest::Refill { node })
@@ -73,7 +73,7 @@ fn key_given(
     }
 }
 
-fn key_fields(fields: &Fields<'_>) -> Result<Option<KeyName>, LineRefusal>
+fn key_fields(fields: &Fields<'_, '_>) -> Result<Option<KeyName>, LineRefusal>
     ensures { Gives unless_memory result (key_fields (said fields.now)) }
 {
     let id = fields.maybe_id("id")?;
@@ -82,7 +82,7 @@ fn key_fields(fields: &Fields<'_>) -> Result<Option<KeyName>, LineRefusal>
     key_given(fields.alloc, id, id1, atype)
 }
 
-pub(crate) fn evict_of(fields: &Fields<'_>) -> Result<CacheRequest, LineRefusal>
+pub(crate) fn evict_of(fields: &Fields<'_, '_>) -> Result<CacheRequest, LineRefusal>
     ensures { Gives unless_memory result (evict_of (said fields.now)) }
 {
     let node = fields.text("node")?;
@@ -91,7 +91,7 @@ pub(crate) fn evict_of(fields: &Fields<'_>) -> Result<CacheRequest, LineRefusal>
     Ok(CacheRequest::Evict { node, key })
 }
 
-pub(crate) fn show_of(fields: &Fields<'_>) -> Result<CacheRequest, LineRefusal>
+pub(crate) fn show_of(fields: &Fields<'_, '_>) -> Result<CacheRequest, LineRefusal>
     ensures { Gives unless_memory result (show_of (said fields.now)) }
 {
     let node = fields.text("node")?;

@@ -11,19 +11,19 @@ use crate::refusal::LineRefusal;
 use requests::{QueryText, ReadCall, WriteCall, WriteText};
 use words::{ReadWord, WriteWord};
 
-pub(crate) fn session_field(fields: &Fields<'_>) -> Result<u32, LineRefusal>
+pub(crate) fn session_field(fields: &Fields<'_, '_>) -> Result<u32, LineRefusal>
     ensures { Gives unless_memory result (session_field (said fields.now)) }
 {
     fields.small("session", 1)
 }
 
-fn seq_field(fields: &Fields<'_>) -> Result<u64, LineRefusal>
+fn seq_field(fields: &Fields<'_, '_>) -> Result<u64, LineRefusal>
     ensures { Gives unless_memory result (seq_field (said fields.now)) }
 {
     fields.number("seq", 1, u64::MAX)
 }
 
-fn limit_field(fields: &Fields<'_>) -> Result<u32, LineRefusal>
+fn limit_field(fields: &Fields<'_, '_>) -> Result<u32, LineRefusal>
     ensures { Gives unless_memory result (limit_field (said fields.now)) }
 {
     fields.small("limit", 1)
@@ -31,7 +31,7 @@ fn limit_field(fields: &Fields<'_>) -> Result<u32, LineRefusal>
 
 // ---- writes
 
-pub(crate) fn write_of(word: WriteWord, fields: &Fields<'_>) -> Result<WriteCall, LineRefusal>
+pub(crate) fn write_of(word: WriteWord, fields: &Fields<'_, '_>) -> Result<WriteCall, LineRefusal>
     ensures { Gives unless_memory result (write_of word (said fields.now)) }
 {
     match word {
@@ -44,7 +44,7 @@ pub(crate) fn write_of(word: WriteWord, fields: &Fields<'_>) -> Result<WriteCall
     }
 }
 
-fn obj_add_of(fields: &Fields<'_>) -> Result<WriteCall, LineRefusal>
+fn obj_add_of(fields: &Fields<'_, '_>) -> Result<WriteCall, LineRefusal>
     ensures { Gives unless_memory result (obj_add_of (said fields.now)) }
 {
     Ok(WriteCall {
@@ -58,7 +58,7 @@ fn obj_add_of(fields: &Fields<'_>) -> Result<WriteCall, LineRefusal>
     })
 }
 
-fn obj_update_of(fields: &Fields<'_>) -> Result<WriteCall, LineRefusal>
+fn obj_update_of(fields: &Fields<'_, '_>) -> Result<WriteCall, LineRefusal>
     ensures { Gives unless_memory result (obj_update_of (said fields.now)) }
 {
     Ok(WriteCall {
@@ -71,7 +71,7 @@ fn obj_update_of(fields: &Fields<'_>) -> Result<WriteCall, LineRefusal>
     })
 }
 
-fn obj_delete_of(fields: &Fields<'_>) -> Result<WriteCall, LineRefusal>
+fn obj_delete_of(fields: &Fields<'_, '_>) -> Result<WriteCall, LineRefusal>
     ensures { Gives unless_memory result (obj_delete_of (said fields.now)) }
 {
     let call = WriteCall {
@@ -85,7 +85,7 @@ fn obj_delete_of(fields: &Fields<'_>) -> Result<WriteCall, LineRefusal>
     Ok(call)
 }
 
-fn assoc_add_of(fields: &Fields<'_>) -> Result<WriteCall, LineRefusal>
+fn assoc_add_of(fields: &Fields<'_, '_>) -> Result<WriteCall, LineRefusal>
     ensures { Gives unless_memory result (assoc_add_of (said fields.now)) }
 {
     let names = [
@@ -102,7 +102,7 @@ fn assoc_add_of(fields: &Fields<'_>) -> Result<WriteCall, LineRefusal>
     })
 }
 
-fn assoc_delete_of(fields: &Fields<'_>) -> Result<WriteCall, LineRefusal>
+fn assoc_delete_of(fields: &Fields<'_, '_>) -> Result<WriteCall, LineRefusal>
     ensures { Gives unless_memory result (assoc_delete_of (said fields.now)) }
 {
     let call = WriteCall {
@@ -116,7 +116,7 @@ fn assoc_delete_of(fields: &Fields<'_>) -> Result<WriteCall, LineRefusal>
     Ok(call)
 }
 
-fn assoc_change_type_of(fields: &Fields<'_>) -> Result<WriteCall, LineRefusal>
+fn assoc_change_type_of(fields: &Fields<'_, '_>) -> Result<WriteCall, LineRefusal>
     ensures { Gives unless_memory result (assoc_change_type_of (said fields.now)) }
 {
     let call = WriteCall {
@@ -133,7 +133,7 @@ fn assoc_change_type_of(fields: &Fields<'_>) -> Result<WriteCall, LineRefusal>
 
 // ---- reads
 
-pub(crate) fn read_of(word: ReadWord, fields: &Fields<'_>) -> Result<ReadCall, LineRefusal>
+pub(crate) fn read_of(word: ReadWord, fields: &Fields<'_, '_>) -> Result<ReadCall, LineRefusal>
     ensures { Gives unless_memory result (read_of word (said fields.now)) }
 {
     match word {
@@ -145,7 +145,7 @@ pub(crate) fn read_of(word: ReadWord, fields: &Fields<'_>) -> Result<ReadCall, L
     }
 }
 
-fn obj_get_of(fields: &Fields<'_>) -> Result<ReadCall, LineRefusal>
+fn obj_get_of(fields: &Fields<'_, '_>) -> Result<ReadCall, LineRefusal>
     ensures { Gives unless_memory result (obj_get_of (said fields.now)) }
 {
     let call = ReadCall {
@@ -159,7 +159,7 @@ fn obj_get_of(fields: &Fields<'_>) -> Result<ReadCall, LineRefusal>
     Ok(call)
 }
 
-fn assoc_get_of(fields: &Fields<'_>) -> Result<ReadCall, LineRefusal>
+fn assoc_get_of(fields: &Fields<'_, '_>) -> Result<ReadCall, LineRefusal>
     ensures { Gives unless_memory result (assoc_get_of (said fields.now)) }
 {
     let call = ReadCall {
@@ -178,7 +178,7 @@ fn assoc_get_of(fields: &Fields<'_>) -> Result<ReadCall, LineRefusal>
     Ok(call)
 }
 
-fn assoc_count_of(fields: &Fields<'_>) -> Result<ReadCall, LineRefusal>
+fn assoc_count_of(fields: &Fields<'_, '_>) -> Result<ReadCall, LineRefusal>
     ensures { Gives unless_memory result (assoc_count_of (said fields.now)) }
 {
     let call = ReadCall {
@@ -192,7 +192,7 @@ fn assoc_count_of(fields: &Fields<'_>) -> Result<ReadCall, LineRefusal>
     Ok(call)
 }
 
-fn assoc_range_of(fields: &Fields<'_>) -> Result<ReadCall, LineRefusal>
+fn assoc_range_of(fields: &Fields<'_, '_>) -> Result<ReadCall, LineRefusal>
     ensures { Gives unless_memory result (assoc_range_of (said fields.now)) }
 {
     let call = ReadCall {
@@ -208,7 +208,7 @@ fn assoc_range_of(fields: &Fields<'_>) -> Result<ReadCall, LineRefusal>
     Ok(call)
 }
 
-fn assoc_time_range_of(fields: &Fields<'_>) -> Result<ReadCall, LineRefusal>
+fn assoc_time_range_of(fields: &Fields<'_, '_>) -> Result<ReadCall, LineRefusal>
     ensures { Gives unless_memory result (assoc_time_range_of (said fields.now)) }
 {
     let call = ReadCall {

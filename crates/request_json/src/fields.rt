@@ -1,6 +1,6 @@
 //! The fields of a request.
 ghost use Rattle.std.specs.Prelude.{◌≡◌, ◌-◌, ◌^◌, map, option_map, Err, IfOk};
-ghost use Rattle.serde_json.specs.View.{members_view};
+ghost use Rattle.json_fields.specs.View.{members_view};
 ghost use Rattle.tao_base.specs.Data.{pair_of, in_order};
 ghost use Rattle.request_json.specs.IdSets.{id_set};
 ghost use Rattle.request_json.specs.Data.{pairs_of, fitting};
@@ -15,20 +15,20 @@ use json_fields::fields::{
     object_at, short_at, small_at, strange_at, text_at,
 };
 use json_fields::items::{IdReader, each_at};
+use json_fields::value::{Json, Member};
 use requests::{EdgeName, ListName};
-use serde_json::{Map, Value};
 use std::alloc::{AllocError, Global};
 use tao_base::{Data, Id, IdSet, Text};
 
 /// The fields of an object, each read by its name: one that isn't there as it has to be is what the
 /// line is refused for.
 #[derive(Clone, Copy)]
-pub(crate) struct Fields<'v> {
+pub(crate) struct Fields<'v, 't> {
     pub alloc: Global,
-    pub value: &'v Value,
+    pub value: &'v Json<'t>,
 }
 
-impl Fields<'_> {
+impl Fields<'_, '_> {
     ghost use Rattle.request_json.specs.Fields.{said, number_field, maybe_number_field, id_field, maybe_id_field, ids_field, data_last, text_field};
     ghost use Rattle.request_json.specs.Fields.{maybe_text_field, flag_field, only_fields, list_fields, edge_fields};
 
@@ -105,7 +105,7 @@ impl Fields<'_> {
     pub(crate) fn data_last(&self, names: &[&str]) -> Result<Data, LineRefusal>
         ensures { Gives unless_memory result (data_last (map (λ n. n.now) names.now) (said self.now)) }
     {
-        let Some(members) = object_at(self.value, "data").and_then(Value::as_object) else {
+        let Some(members) = object_at(self.value, "data").and_then(Json::as_object) else {
             return Err(bad_line(self.alloc, "data"));
         };
         let Some(pairs) = pairs_of(self.alloc, members)? else {
@@ -185,15 +185,15 @@ fn set_of(ids: Vec<Id>) -> IdSet
 /// The texts of an object, by their keys: nothing where a member is none.
 fn pairs_of(
     alloc: Global,
-    members: &Map<String, Value>,
+    members: &[Member<'_>],
 ) -> Result<Option<Vec<(String, String)>>, AllocError>
     ensures { IfOk result (λ read. option_map (λ v. map pair_of v.items) read
-        ≡ pairs_of (members_view members.now.entries)) }
+        ≡ pairs_of (members_view members.now)) }
 {
     let mut pairs = Vec::new(alloc);
-    for (key, value) in members {
-        match value.as_str() {
-            Some(text) => pairs.push(pair_of(alloc, key.as_str(), text)?)?,
+    for member in members {
+        match member.1.as_str() {
+            Some(text) => pairs.push(pair_of(alloc, member.0, text)?)?,
             None => return Ok(None),
         }
     }
@@ -238,7 +238,7 @@ pub(crate) fn bad_line(alloc: Global, field: &str) -> LineRefusal
 }
 
 /// The node that is named by a request with no other field.
-pub(crate) fn node_of(fields: &Fields<'_>) -> Result<Text, LineRefusal>
+pub(crate) fn node_of(fields: &Fields<'_, '_>) -> Result<Text, LineRefusal>
     ensures { Gives unless_memory result (node_of (said fields.now)) }
 {
     let node = fields.text("node")?;

@@ -9,7 +9,10 @@ use crate::refusal::LineRefusal;
 use requests::{HealthRequest, LeaderName};
 use words::HealthWord;
 
-pub(crate) fn health_of(word: HealthWord, fields: &Fields<'_>) -> Result<HealthRequest, LineRefusal>
+pub(crate) fn health_of(
+    word: HealthWord,
+    fields: &Fields<'_, '_>,
+) -> Result<HealthRequest, LineRefusal>
     ensures { Gives unless_memory result (health_of word (said fields.now)) }
 {
     match word {
@@ -20,7 +23,7 @@ pub(crate) fn health_of(word: HealthWord, fields: &Fields<'_>) -> Result<HealthR
     }
 }
 
-fn leader_of(fields: &Fields<'_>) -> Result<LeaderName, LineRefusal>
+fn leader_of(fields: &Fields<'_, '_>) -> Result<LeaderName, LineRefusal>
     ensures { Gives unless_memory result (leader_of (said fields.now)) }
 {
     let leader = LeaderName {

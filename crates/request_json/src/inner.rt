@@ -15,7 +15,7 @@ use requests::{Call, ReadCall};
 use words::Word;
 
 /// The call that an object asks.
-pub(crate) fn call_of(fields: &Fields<'_>) -> Result<Call, LineRefusal>
+pub(crate) fn call_of(fields: &Fields<'_, '_>) -> Result<Call, LineRefusal>
     ensures { Gives unless_memory result (call_by (word_of (said fields.now)) (said fields.now)) }
 {
     match word_of(fields.value) {
@@ -26,7 +26,7 @@ pub(crate) fn call_of(fields: &Fields<'_>) -> Result<Call, LineRefusal>
 }
 
 /// The read that an object asks.
-pub(crate) fn inner_read_of(fields: &Fields<'_>) -> Result<ReadCall, LineRefusal>
+pub(crate) fn inner_read_of(fields: &Fields<'_, '_>) -> Result<ReadCall, LineRefusal>
     ensures { Gives unless_memory result (read_by (word_of (said fields.now)) (said fields.now)) }
 {
     match word_of(fields.value) {
@@ -38,7 +38,7 @@ pub(crate) fn inner_read_of(fields: &Fields<'_>) -> Result<ReadCall, LineRefusal
 /// What a request within another one asks: all its fields are the field `request` of that one, whose
 /// strange fields are looked for before the size of the inner one's data.
 pub(crate) fn asked_within<T: Drop>(
-    fields: &Fields<'_>,
+    fields: &Fields<'_, '_>,
     names: &[&str],
     inner: Result<T, LineRefusal>,
 ) -> Result<T, LineRefusal>

@@ -19,5 +19,6 @@ mod sessions;
 mod stores;
 mod word;
 
+pub use json_fields::lines::LineMemory;
 pub use read::read_request;
 pub use refusal::LineRefusal;

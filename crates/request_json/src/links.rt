@@ -9,7 +9,7 @@ use crate::refusal::LineRefusal;
 use requests::{LinkName, LinkRequest};
 use words::LinkWord;
 
-pub(crate) fn link_of(word: LinkWord, fields: &Fields<'_>) -> Result<LinkRequest, LineRefusal>
+pub(crate) fn link_of(word: LinkWord, fields: &Fields<'_, '_>) -> Result<LinkRequest, LineRefusal>
     ensures { Gives unless_memory result (link_of word (said fields.now)) }
 {
     match word {
@@ -18,7 +18,7 @@ pub(crate) fn link_of(word: LinkWord, fields: &Fields<'_>) -> Result<LinkRequest
     }
 }
 
-fn ends_of(fields: &Fields<'_>) -> Result<LinkName, LineRefusal>
+fn ends_of(fields: &Fields<'_, '_>) -> Result<LinkName, LineRefusal>
     ensures { Gives unless_memory result (ends_of (said fields.now)) }
 {
     let link = LinkName {

@@ -11,7 +11,10 @@ use json_fields::fields::object_at;
 use requests::PlanRequest;
 use words::PlanWord;
 
-pub(crate) fn planning_of(word: PlanWord, fields: &Fields<'_>) -> Result<PlanRequest, LineRefusal>
+pub(crate) fn planning_of(
+    word: PlanWord,
+    fields: &Fields<'_, '_>,
+) -> Result<PlanRequest, LineRefusal>
     ensures { Gives unless_memory result (planning_of word (said fields.now)) }
 {
     match word {
@@ -20,13 +23,13 @@ pub(crate) fn planning_of(word: PlanWord, fields: &Fields<'_>) -> Result<PlanReq
     }
 }
 
-fn plan_field(fields: &Fields<'_>) -> Result<u32, LineRefusal>
+fn plan_field(fields: &Fields<'_, '_>) -> Result<u32, LineRefusal>
     ensures { Gives unless_memory result (plan_field (said fields.now)) }
 {
     fields.small("plan", 0)
 }
 
-fn hold_of(fields: &Fields<'_>) -> Result<PlanRequest, LineRefusal>
+fn hold_of(fields: &Fields<'_, '_>) -> Result<PlanRequest, LineRefusal>
     ensures { Gives unless_memory result (hold_of (said fields.now)) }
 {
     let plan = plan_field(fields)?;
@@ -39,7 +42,7 @@ fn hold_of(fields: &Fields<'_>) -> Result<PlanRequest, LineRefusal>
     Ok(PlanRequest::Hold { plan, call })
 }
 
-fn advance_of(fields: &Fields<'_>) -> Result<PlanRequest, LineRefusal>
+fn advance_of(fields: &Fields<'_, '_>) -> Result<PlanRequest, LineRefusal>
     ensures { Gives unless_memory result (advance_of (said fields.now)) }
 {
     let plan = plan_field(fields)?;

@@ -1,5 +1,5 @@
 //! What a line asks.
-ghost use Rattle.serde_json.specs.View.{view};
+ghost use Rattle.json_fields.specs.View.{view};
 ghost use Rattle.outcomes.specs.Results.{Gives};
 ghost use Rattle.request_json.specs.Refusal.{unless_memory};
 ghost use Rattle.request_json.specs.Fields.{said};
@@ -15,24 +15,28 @@ use crate::refusal::LineRefusal;
 use crate::sessions::open_of;
 use crate::stores::{audit_of, repair_of, settle_of, stream_of, trim_of};
 use crate::word::word_of;
-use json_fields::json::parse;
+use json_fields::lines::{LineMemory, parse};
+use json_fields::value::Json;
 use requests::{Call, Request};
-use serde_json::Value;
 use std::alloc::Global;
 use words::Word;
 
 /// What a line asks: exactly the requests are taken, and a line that is none is refused for the first
-/// rule that it breaks. Reads the line once, and each of its fields a few times.
-pub fn read_request(alloc: Global, line: &[u8]) -> Result<Request, LineRefusal>
+/// rule that it breaks. Reads the line once, and each of its fields a few times. The memory is kept from line to line.
+pub fn read_request(
+    alloc: Global,
+    memory: &mut LineMemory,
+    line: &[u8],
+) -> Result<Request, LineRefusal>
     ensures { Gives unless_memory result (request_in line.now) }
 {
-    match parse(alloc, line)? {
+    match parse(alloc, memory, line)? {
         Some(value) => request_by(alloc, &value),
         None => Err(bad_line(alloc, "")),
     }
 }
 
-fn request_by(alloc: Global, value: &Value) -> Result<Request, LineRefusal>
+fn request_by(alloc: Global, value: &Json<'_>) -> Result<Request, LineRefusal>
     ensures { Gives unless_memory result (request_by (view value.now)) }
 {
     if !value.is_object() {
@@ -44,7 +48,7 @@ fn request_by(alloc: Global, value: &Value) -> Result<Request, LineRefusal>
     }
 }
 
-fn request_of(word: Word, fields: &Fields<'_>) -> Result<Request, LineRefusal>
+fn request_of(word: Word, fields: &Fields<'_, '_>) -> Result<Request, LineRefusal>
     ensures { Gives unless_memory result (request_of word (said fields.now)) }
 {
     match word {

@@ -9,7 +9,7 @@ use crate::fields::Fields;
 use crate::refusal::LineRefusal;
 use requests::OpenCall;
 
-pub(crate) fn open_of(fields: &Fields<'_>) -> Result<OpenCall, LineRefusal>
+pub(crate) fn open_of(fields: &Fields<'_, '_>) -> Result<OpenCall, LineRefusal>
     ensures { Gives unless_memory result (open_of (said fields.now)) }
 {
     let opening = OpenCall {

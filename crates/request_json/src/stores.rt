@@ -10,7 +10,7 @@ use crate::refusal::LineRefusal;
 use json_fields::fields::object_at;
 use requests::StoreRequest;
 
-pub(crate) fn stream_of(fields: &Fields<'_>) -> Result<StoreRequest, LineRefusal>
+pub(crate) fn stream_of(fields: &Fields<'_, '_>) -> Result<StoreRequest, LineRefusal>
     ensures { Gives unless_memory result (stream_of (said fields.now)) }
 {
     let region = fields.text("region")?;
@@ -24,7 +24,7 @@ pub(crate) fn stream_of(fields: &Fields<'_>) -> Result<StoreRequest, LineRefusal
     })
 }
 
-pub(crate) fn trim_of(fields: &Fields<'_>) -> Result<StoreRequest, LineRefusal>
+pub(crate) fn trim_of(fields: &Fields<'_, '_>) -> Result<StoreRequest, LineRefusal>
     ensures { Gives unless_memory result (trim_of (said fields.now)) }
 {
     let region = fields.text("region")?;
@@ -38,7 +38,7 @@ pub(crate) fn trim_of(fields: &Fields<'_>) -> Result<StoreRequest, LineRefusal>
     })
 }
 
-pub(crate) fn repair_of(fields: &Fields<'_>) -> Result<StoreRequest, LineRefusal>
+pub(crate) fn repair_of(fields: &Fields<'_, '_>) -> Result<StoreRequest, LineRefusal>
     ensures { Gives unless_memory result (repair_of (said fields.now)) }
 {
     let shard = fields.short("shard")?;
@@ -46,14 +46,14 @@ pub(crate) fn repair_of(fields: &Fields<'_>) -> Result<StoreRequest, LineRefusal
     Ok(StoreRequest::Repair { shard })
 }
 
-pub(crate) fn settle_of(fields: &Fields<'_>) -> Result<StoreRequest, LineRefusal>
+pub(crate) fn settle_of(fields: &Fields<'_, '_>) -> Result<StoreRequest, LineRefusal>
     ensures { Gives unless_memory result (settle_of (said fields.now)) }
 {
     fields.only(&["do"])?;
     Ok(StoreRequest::Settle)
 }
 
-pub(crate) fn audit_of(fields: &Fields<'_>) -> Result<StoreRequest, LineRefusal>
+pub(crate) fn audit_of(fields: &Fields<'_, '_>) -> Result<StoreRequest, LineRefusal>
     ensures { Gives unless_memory result (audit_of (said fields.now)) }
 {
     let Some(value) = object_at(fields.value, "request") else {

@@ -17,7 +17,7 @@ pub use replies::{
     WriteKind, WriteReply, Written,
 };
 pub use reply_json::{bad_configuration_text, reply_text};
-pub use request_json::{LineRefusal, read_request};
+pub use request_json::{LineMemory, LineRefusal, read_request};
 pub use requests::{
     Call, EdgeName, KeyName, LeaderName, LinkName, ListName, MessageName, OpenCall, QueryText,
     ReadCall, Request, WriteCall, WriteText,

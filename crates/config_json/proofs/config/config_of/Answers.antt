@@ -1,5 +1,5 @@
 use Rattle.std.proofs.Common.{◌∙◌, IsTrue, codes, refl, subst, sym}
-use Rattle.serde_json.specs.View.{view}
+use Rattle.json_fields.specs.View.{view}
 use Rattle.topology.specs.Regions.{are_regions}
 use Rattle.config_json.proofs.KeptRules.{said_of, number_at_range, number_or_range, masters_within}
 use Rattle.config_json.proofs.config.config_of.Goals as goal

@@ -1,5 +1,5 @@
 use Rattle.std.proofs.Common.{◌≡◌, ◌++◌, drop, option_map}
-use Rattle.serde_json.specs.View.{items_view}
+use Rattle.json_fields.specs.View.{items_view}
 use Rattle.json_fields.specs.Items.{each}
 use Rattle.json_fields.proofs.items.each.Given as goal
 

@@ -1,4 +1,4 @@
-use Rattle.std.proofs.Common.{◌≡◌, ℕ, ◌≤◌, nat_le, true, List, length, Some, None, IsUtf8, sym, inl, inr, arith, rules}
+use Rattle.std.proofs.Common.{◌≡◌, ℕ, ◌≤◌, nat_le, true, List, length, Some, None, IsUtf8, sym, ap, ◌∙◌, inl, inr, arith}
 use Rattle.std.proofs.lemmas.Bool.{cases_Bool}
 use Rattle.std.proofs.lemmas.Bool.Decides.{nat_tests}
 use Rattle.std.proofs.lemmas.Str.{IsUtf8-from_is_utf8, is_utf8-from_IsUtf8}
@@ -6,7 +6,7 @@ use Rattle.std.specs.Str.{is_utf8}
 use Rattle.serde_json.specs.Data.{Data}
 use Rattle.serde_json.specs.Read.{read}
 use Rattle.json_fields.specs.Json.{json_of}
-use Rattle.json_fields.proofs.json.parse.Goals as goal
+use Rattle.json_fields.proofs.lines.parse.Goals as goal
 
 short : (line : List ℕ) → length line ≤ 1048576 → nat_le (length line) 1048576 ≡ true
 short line h = grind (arith, nat_tests)
@@ -20,8 +20,9 @@ none_read line fits refused = elim (cases_Bool (is_utf8 line)) [
   | inr other ↦ rw (short line fits, other)
 ]
 
-pub returns-in-Ok : goal.returns-in-Ok
-returns-in-Ok c = some_read _ _ (omega arith) c.in-Ok.ensures.ok.0 c.in-Ok.ensures.ok.1
+pub returns-in_default : goal.returns-in_default
+returns-in_default c = none_read _ (omega arith) (λ valid. absurd (c.in_default.ensures.cases.0 valid))
 
-pub returns-else-is_memory : goal.returns-else-is_memory
-returns-else-is_memory c = none_read _ (omega arith) (search rules)
+pub returns-in-Ok-text_value : goal.returns-in-Ok-text_value
+returns-in-Ok-text_value c =
+    some_read _ _ (omega arith) c.in-Ok.ensures.cases.1 (ap read (sym c.in-Ok.ensures.cases.0) ∙ c.in-Ok-text_value.ensures.ok)

@@ -26,30 +26,34 @@ FIRST = [
 ADDS = [{"do": "assoc_add", "session": 1, "seq": i, "id1": 1, "atype": "likes", "id2": i + 1, "time": i, "data": {}} for i in range(1, MOST + 1)]
 
 
-def lines(requests: list[object]) -> bytes:
-    return b"".join(json.dumps(request, separators=(",", ":")).encode() + b"\n" for request in requests)
+def line(request: object) -> bytes:
+    return json.dumps(request, separators=(",", ":")).encode() + b"\n"
 
 
-def give(to: object, text: bytes) -> None:
-    """Writes as long as the other side reads."""
+def asked(program: subprocess.Popen[bytes], request: object) -> bytes:
+    """What the program answers. Whole lines at hand are answered together, so that each is given once the one before it was answered."""
     try:
-        to.write(text)
-        to.close()
+        os.write(program.stdin.fileno(), line(request))
     except OSError:
-        pass
+        return b""
+    return program.stdout.readline()
 
 
 def killed(path: str, file: Path, known: int, moment: float) -> tuple[list[dict], int]:
     """The replies of a run that is killed a moment after it has answered what is known, and its status."""
     words = [path, "run", "--sql", str(file)]
+    replies = []
     with subprocess.Popen(words, stdin=subprocess.PIPE, stdout=subprocess.PIPE) as program:
-        threading.Thread(target=give, args=(program.stdin, lines(FIRST + ADDS)), daemon=True).start()
-        replies = [program.stdout.readline() for _ in range(len(FIRST) + known)]
         killer = threading.Timer(moment, program.kill)
-        killer.start()
-        replies += program.stdout.readlines()
-        killer.cancel()
-    return [json.loads(line) for line in replies if line.endswith(b"\n")], program.returncode
+        for request in FIRST + ADDS:
+            if len(replies) == len(FIRST) + known:
+                killer.start()
+            reply = asked(program, request)
+            if not reply.endswith(b"\n"):
+                break
+            replies.append(json.loads(reply))
+        killer.join()
+    return replies, program.returncode
 
 
 def main(path: str, times: int) -> None:

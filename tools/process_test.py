@@ -14,12 +14,14 @@ import os
 import pty
 import resource
 import signal
+import socket
 import sqlite3
 import subprocess
 import sys
 import tempfile
+import threading
 import unittest
-from collections.abc import Callable, Iterator
+from collections.abc import Callable, Iterable, Iterator
 from pathlib import Path
 
 TOP = Path(__file__).resolve().parent.parent
@@ -63,6 +65,10 @@ def with_room(size: int) -> Callable[[], None]:
     return lambda: resource.setrlimit(resource.RLIMIT_AS, (size, size))
 
 
+# The stack grows into the room as it is needed. Where nothing is left for that the system ends the process, before it could tell.
+NO_STACK = -signal.SIGSEGV
+
+
 @functools.cache
 def least_room() -> int:
     """The addresses that the program needs to begin at all, to some pages."""
@@ -74,9 +80,9 @@ def least_room() -> int:
 
 
 def rooms() -> Iterator[int]:
-    """Ever more room, in steps that grow, up to some 16 times what the program begins with."""
-    step = PAGES
-    room = least_room()
+    """Ever more room, a few pages at a time and then in steps that grow, up to some 16 times what the program begins with."""
+    room, step = least_room() + 12 * PAGES, PAGES
+    yield from range(least_room(), room, PAGES)
     while room < 16 * least_room():
         yield room
         room, step = room + step, 2 * step
@@ -205,6 +211,54 @@ class Streams(unittest.TestCase):
         self.assertEqual((done.returncode, written, done.stderr), (5, whole[:size], b""))
 
 
+class Gathered(unittest.TestCase):
+    """The replies of lines that are at hand are written together, and none waits for a line that isn't."""
+
+    def setUp(self) -> None:
+        self.lines = SCRIPT.splitlines(keepends=True)
+        self.replies = whole_run(SCRIPT)
+
+    @contextlib.contextmanager
+    def patiently(self, **how: object) -> Iterator[subprocess.Popen[bytes]]:
+        """A run that is killed where it takes too long, so that a reply which never comes ends the test."""
+        with subprocess.Popen([PROGRAM, "run"], **how) as running:
+            patience = threading.Timer(60, running.kill)
+            patience.start()
+            yield running
+            patience.cancel()
+        self.assertEqual(running.returncode, 0)
+
+    def assert_answered(self, pieces: Iterable[bytes]) -> None:
+        """Each piece of the script is given once the reply to the piece before it was read."""
+        with self.patiently(stdin=subprocess.PIPE, stdout=subprocess.PIPE) as running:
+            for piece, reply in zip(pieces, self.replies, strict=True):
+                running.stdin.write(piece)
+                running.stdin.flush()
+                self.assertEqual(running.stdout.readline(), reply)
+            running.stdin.close()
+            self.assertEqual(running.stdout.read(), b"")
+
+    def test_each_line_is_answered_before_the_next_is_given(self) -> None:
+        self.assert_answered(self.lines)
+
+    def test_no_reply_waits_behind_empty_lines_and_the_beginning_of_one(self) -> None:
+        beginnings = [line[:5] for line in self.lines] + [b""]
+        self.assert_answered(line[5 * (i > 0) :] + b"\n\n" + beginnings[i + 1] for i, line in enumerate(self.lines))
+
+    def test_replies_of_lines_at_hand_are_written_together(self) -> None:
+        script = adds(2_000)
+        with tempfile.TemporaryFile() as file:
+            file.write(script)
+            file.seek(0)
+            reader, writer = socket.socketpair(socket.AF_UNIX, socket.SOCK_SEQPACKET)
+            with reader, self.patiently(stdin=file, stdout=writer):
+                writer.close()
+                written = list(iter(functools.partial(reader.recv, 4 * PAGES), b""))
+        self.assertEqual(b"".join(written), b"".join(whole_run(script)))
+        self.assertLessEqual(max(map(len, written)), PAGES)
+        self.assertLess(len(written), 12)
+
+
 class Memory(unittest.TestCase):
     """With a limit on its addresses the program ends with 7, or tells of it in replies. It writes each line whole."""
 
@@ -213,6 +267,8 @@ class Memory(unittest.TestCase):
         whole, runs = whole_run(script), []
         for room in rooms():
             done = tao("run", input=script, preexec_fn=with_room(room))
+            if done.returncode == NO_STACK:
+                continue
             lines = done.stdout.splitlines(keepends=True)
             same = list(itertools.takewhile(lambda line: not line.startswith(NO_MEMORY), lines))
             self.assertEqual(same, whole[: len(same)], room)
@@ -241,6 +297,8 @@ class Memory(unittest.TestCase):
             with tempfile.TemporaryDirectory() as folder:
                 first = tao("run", "--sql", Path(folder, "tables"), input=script, preexec_fn=with_room(room))
                 again = tao("run", "--sql", Path(folder, "tables"), input=script)
+            if first.returncode == NO_STACK:
+                continue
             told = [json.loads(line).get("ok") == "assoc_add" for line in first.stdout.splitlines()]
             known = [json.loads(line).get("retry") for line in again.stdout.splitlines()]
             self.assertIn(first.returncode, (0, 7), room)
@@ -307,12 +365,17 @@ class Files(unittest.TestCase):
 
     def test_what_was_told_outlives_a_kill(self) -> None:
         script = adds(50)
+        lines = script.splitlines(keepends=True)
         for count in (1, 3, 40):
             file = self.folder / f"tables{count}"
             with subprocess.Popen([PROGRAM, "run", "--sql", file], stdin=subprocess.PIPE, stdout=subprocess.PIPE) as first:
-                first.stdin.write(script)
+                told = []
+                for line in lines[:count]:
+                    first.stdin.write(line)
+                    first.stdin.flush()
+                    told.append(first.stdout.readline())
+                first.stdin.write(b"".join(lines[count:]))
                 first.stdin.flush()
-                told = [first.stdout.readline() for _ in range(count)]
                 first.kill()
             again = tao("run", "--sql", file, input=script).stdout.splitlines()
             self.assertEqual(len(again), 52)

@@ -40,5 +40,9 @@ impl Sink for NarrowSink {
         Ok(1)
     }
 
+    fn flush(&mut self) -> Result<(), SinkFailed> {
+        Ok(())
+    }
+
     fn progress(&mut self, _done: u64, _all: u64) {}
 }

@@ -11,7 +11,7 @@ use tao_io::{StdSink, write_all};
 const FAULTY_WORDS: u8 = 2;
 
 /// The status where standard output failed.
-const FAULTY_OUTPUT: u8 = 5;
+pub const FAULTY_OUTPUT: u8 = 5;
 
 /// The words after the program's name. A word that isn't text is an error.
 fn words(rt: &HostRuntime) -> io::Result<Vec<String>> {

@@ -1,13 +1,15 @@
 //! A run over the standard streams.
-ghost use Rattle.std.specs.Prelude.{◌≡◌};
+ghost use Rattle.std.specs.Prelude.{◌≡◌, IsErr, IsOk};
 ghost use Rattle.graph_model.specs.Told.{WhereTold};
 ghost use Rattle.tao_keeper.specs.declared.keeper.KeepFail.TheVariants.{Failed, OutOfMemory as NoMemory};
 ghost use Rattle.tao_top.specs.Kept.{MayBeginAny};
 
+use crate::process::FAULTY_OUTPUT;
 use crate::watched::Watched;
 use keeper_map::{Fails, MapKeeper};
 use keeper_sql::SqlKeeper;
-use tao_io::{StdSink, StdSource};
+use std::io::BufWriter;
+use tao_io::{Sink, SinkFailed, StdSink, StdSource};
 use tao_keeper::{KeepFail, Keeper};
 use tao_link::SwitchLink;
 
@@ -17,22 +19,42 @@ const NO_FILE: u8 = 6;
 /// The status where there was no memory.
 pub const NO_MEMORY: u8 = 7;
 
-/// Serves over these keepers, and answers the status of the run. Each reply is written as soon as it is there.
+/// How many bytes of replies are written at a time, at most.
+const GATHERED: usize = 65_536;
+
+/// The status of a run, all of whose replies were to be written at its end.
+fn status_at_end(code: u8, written: Result<(), SinkFailed>) -> u8
+    ensures written { IsOk written → result ≡ code }
+    ensures failed { IsErr written → result ≡ 5 }
+{
+    match written {
+        Ok(()) => code,
+        Err(SinkFailed) => FAULTY_OUTPUT,
+    }
+}
+
+/// Serves over these keepers, and answers the status of the run. The replies of lines that are at hand are written together.
 fn over<K: Keeper>(rt: &HostRuntime, words: &[String], keepers: &mut K) -> u8
     requires { WhereTold K.TELLS (MayBeginAny (K.state keepers.old).told) }
 {
+    let Ok(writer) = BufWriter::with_capacity(rt.alloc(), GATHERED, rt.stdout()) else {
+        return NO_MEMORY;
+    };
     let mut input = StdSource::of(rt.stdin());
-    let mut output = Watched::of(rt, StdSink::of(rt.stdout()));
+    let mut output = Watched::of(rt, StdSink::of(writer));
     let mut link = SwitchLink::make(rt.alloc());
-    tao_top::run(
-        rt.alloc(),
-        words,
-        &mut input,
-        &mut output,
-        keepers,
-        &mut link,
+    status_at_end(
+        tao_top::run(
+            rt.alloc(),
+            words,
+            &mut input,
+            &mut output,
+            keepers,
+            &mut link,
+        )
+        .code,
+        output.flush(),
     )
-    .code
 }
 
 /// Serves over stores in memory, which nothing was written to.

@@ -43,6 +43,10 @@ impl<'r, S: Sink> Sink for Watched<'r, S> {
         self.sink.put(piece)
     }
 
+    fn flush(&mut self) -> Result<(), SinkFailed> {
+        self.sink.flush()
+    }
+
     fn progress(&mut self, done: u64, all: u64) {
         if self.is_watched && (done % STEP == 0 || done == all) {
             let end = if done == all { "\n" } else { "" };

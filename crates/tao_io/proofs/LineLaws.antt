@@ -1,14 +1,18 @@
 -- Laws of the lines of bytes, and of what is held of a line.
 use Rattle.std.proofs.Common.{◌≡◌, ℕ, ◌+◌, ◌-◌, ◌<◌, ◌≤◌, zero, suc, nat_lt, List, [], ◌∷◌, ◌++◌, Some, inl, inr, min, length, take, drop, get_or}
-use Rattle.std.proofs.Common.{refl, ap, ◌∙◌, sym, subst, arith, length-take}
-use Rattle.std.proofs.lemmas.Bool.{cases_Bool, ltb-true, ltb-false, lt-ltb, eqb-true}
-use Rattle.std.proofs.lemmas.List.{take_all, take_min, get_or-take, drop-take, drop-drop}
+use Rattle.std.proofs.Common.{Bool, Option, None, true, false, refl, ap, not, ◌∙◌, sym, subst, arith, append_assoc, append-nil, length-take}
+use Rattle.std.proofs.lemmas.Bool.{cases_Bool, true≢false, ltb-true, ltb-false, lt-ltb, eqb-true, false_from_ne_true, not-false, not-true}
+use Rattle.std.proofs.lemmas.Grind.{get_or_default_zero}
+use Rattle.std.proofs.lemmas.List.Elements.{All-nil}
+use Rattle.std.proofs.lemmas.List.{take_all, take_min, take_rest, get_or-take, drop-take, drop-drop, drop_more, take-append-drop}
 use Rattle.std.proofs.Math.Seq.{take-append-add}
-use Rattle.std.proofs.lemmas.List.Sums.{fails_before_first, passes_at_first, split_at_first}
+use Rattle.std.proofs.lemmas.List.Sums.{fails_before_first, passes_at_first}
 use Rattle.std.proofs.lemmas.List.Splits.{slice_split_none, slice_split_at}
 use Rattle.std.specs.List.{position_or_len, position}
+use Rattle.std.specs.Option.{is_some}
 use Rattle.tao_io.specs.Lines.{is_line_end, lines_of}
-use Rattle.tao_io.specs.LineParts.{NoLineEnd, EndsLineAt, held, TakesToEnd}
+use Rattle.memchr.specs.Find.{IsFirstByte, Nowhere, Passes, is_byte}
+use Rattle.tao_io.specs.LineParts.{NoLineEnd, EndsAlone, EndsLineAt, HoldsLine, HoldsNoLine, StartsLineAt, held, TakesToEnd}
 
 -- the front of a front, gone on with, is the front of the whole
 take_take-append : (n : ℕ) (xs ys : List ℕ) → take n (take n xs ++ ys) ≡ take n (xs ++ ys)
@@ -39,31 +43,85 @@ pub held-short : (line : List ℕ) → length line ≤ 1048577 → held line ≡
 unfolding held
 held-short line short = take_all 1048577 line short
 
--- no line ends before the first end
-NoLineEnd-before : (bytes : List ℕ) (n : ℕ) → n ≤ position_or_len is_line_end bytes → NoLineEnd (take n bytes)
-NoLineEnd-before bytes n within k d small =
+-- no line ends before a place behind which none of its ends was found
+NoLineEnd-before : (bytes : List ℕ) (n : ℕ) → Nowhere (Passes is_line_end bytes) 0 n → NoLineEnd (take n bytes)
+NoLineEnd-before bytes n nowhere k d small =
     let below : k < n = omega (arith, length-take n bytes) in
-    let before : k < position_or_len is_line_end bytes = omega arith in
-    ap is_line_end (get_or-take n bytes k d below) ∙ fails_before_first is_line_end bytes k d before
+    let within : k < length bytes = omega (arith, length-take n bytes) in
+    ap is_line_end (get_or-take n bytes k d below ∙ get_or_default_zero bytes k d within) ∙ false_from_ne_true _ (nowhere k (omega arith) below)
 
--- the first end of a line stands at the first byte 10
-pub position-ends : (bytes : List ℕ) → EndsLineAt bytes (position is_line_end bytes)
-position-ends bytes =
-    let at = position_or_len is_line_end bytes in
+-- the first byte 10 is the first end of a line
+pub first-ends : (bytes : List ℕ) (found : Option ℕ) → IsFirstByte (is_byte 10) bytes found → EndsLineAt bytes found
+first-ends bytes None none = λ k d small. ap is_line_end (get_or_default_zero bytes k d small) ∙ false_from_ne_true _ (none k (omega arith) small)
+first-ends bytes (Some at) first =
+    let within : at < length bytes = first.0.high in
+    let ten : get_or bytes at 0 ≡ 10 = eqb-true _ _ first.1 in (
+      within,
+      NoLineEnd-before bytes at first.0.before,
+      subst (λ b. bytes ≡ take at bytes ++ b ∷ drop (at + 1) bytes) ten (sym (take-append-drop at bytes) ∙ ap (λ l. take at bytes ++ l) (drop_more bytes at 0 within)),
+    )
+
+-- the first byte that isn't an end of a line starts one
+pub position-starts : (bytes : List ℕ) → StartsLineAt bytes (position (λ byte. not (is_line_end byte)) bytes)
+position-starts bytes =
+    let starts : ℕ → Bool = λ byte. not (is_line_end byte) in
+    let at = position_or_len starts bytes in
     elim (cases_Bool (nat_lt at (length bytes))) [
       | inl found ↦
           let within : at < length bytes = ltb-true at (length bytes) found in
-          let ten : get_or bytes at 0 ≡ 10 = eqb-true _ _ (passes_at_first is_line_end bytes 0 within) in
           rw found (
             within,
-            NoLineEnd-before bytes at (omega arith),
-            subst (λ b. bytes ≡ take at bytes ++ b ∷ drop (at + 1) bytes) ten
-                (split_at_first is_line_end bytes 0 within),
+            λ k d small.
+                let below : k < at = omega (arith, length-take at bytes) in
+                ap is_line_end (get_or-take at bytes k d below) ∙ not-false _ (fails_before_first starts bytes k d below),
+            not-true _ (passes_at_first starts bytes 0 within),
           )
       | inr none ↦
           let past : length bytes ≤ at = ltb-false at (length bytes) none in
-          rw none (λ k d small. let before : k < at = omega arith in fails_before_first is_line_end bytes k d before)
+          rw none (λ k d small. let before : k < at = omega arith in not-false _ (fails_before_first starts bytes k d before))
     ]
+
+-- a line starts at that place: it stands whole where an end of it follows, and else nothing behind it ends a line
+module _ (bytes : List ℕ) (start : ℕ) (starts : StartsLineAt bytes (Some start)) where
+  not_at_once : EndsLineAt (drop start bytes) (Some 0) → ⊥
+  not_at_once ends =
+      let ten : get_or bytes start 0 ≡ 10 = ap (λ l. get_or l 0 0) (sym (drop_more bytes start 0 starts.0) ∙ ends.2) in
+      true≢false (sym (ap is_line_end ten) ∙ starts.2)
+
+  some_line : (n : ℕ) → EndsLineAt (drop start bytes) (Some n) → 0 < length (take n (drop start bytes))
+  some_line zero ends = absurd (not_at_once ends)
+  some_line (suc n) ends = omega (arith, ends.0, length-take (suc n) (drop start bytes))
+
+  -- what a slice from that place on has of ends
+  rest_ends : (found : Option ℕ) → EndsLineAt (take (length bytes - start) (drop start bytes)) found → EndsLineAt (drop start bytes) found
+  rest_ends found ends = subst (λ l. EndsLineAt l found) (take_rest bytes start) ends
+
+  holds_whole : (found : Option ℕ) → EndsLineAt (drop start bytes) found → is_some found ≡ true → HoldsLine bytes
+  holds_whole None none says = absurd (true≢false (sym says))
+  holds_whole (Some n) ends says = (
+    take start bytes,
+    take n (drop start bytes),
+    drop (n + 1) (drop start bytes),
+    starts.1,
+    ends.1,
+    some_line n ends,
+    sym (take-append-drop start bytes) ∙ ap (λ l. take start bytes ++ l) ends.2
+        ∙ sym (append_assoc (take start bytes) (take n (drop start bytes)) (10 ∷ drop (n + 1) (drop start bytes))),
+  )
+
+  holds_part : (found : Option ℕ) → EndsLineAt (drop start bytes) found → is_some found ≡ false → HoldsNoLine bytes
+  holds_part None none says = (take start bytes, drop start bytes, starts.1, none, sym (take-append-drop start bytes))
+  holds_part (Some n) ends says = absurd (true≢false says)
+
+  pub holds_line : (found : Option ℕ) → EndsLineAt (take (length bytes - start) (drop start bytes)) found → is_some found ≡ true → HoldsLine bytes
+  holds_line found ends says = holds_whole found (rest_ends found ends) says
+
+  pub holds_no_line : (found : Option ℕ) → EndsLineAt (take (length bytes - start) (drop start bytes)) found → is_some found ≡ false → HoldsNoLine bytes
+  holds_no_line found ends says = holds_part found (rest_ends found ends) says
+
+-- bytes that each end a line hold none
+pub holds_none : (bytes : List ℕ) → EndsAlone bytes → HoldsNoLine bytes
+holds_none bytes ends = (bytes, [], ends, All-nil (λ byte. is_line_end byte ≡ false), sym (append-nil bytes))
 
 -- a line and its end, and then the lines of what follows
 pub lines_of-ended : (line rest : List ℕ) → NoLineEnd line → 0 < length line → lines_of (line ++ 10 ∷ rest) ≡ line ∷ lines_of rest

@@ -1,5 +1,5 @@
 -- A line that is put together from the chunks in which it comes.
-use Rattle.std.specs.Prelude.{◌≡◌, ℕ, ◌+◌, ◌<◌, nat_lt, false, if◌then◌else◌, List, [], ◌∷◌, ◌++◌, length, take, drop, All, Option, Some, None}
+use Rattle.std.specs.Prelude.{◌≡◌, ℕ, ◌+◌, ◌<◌, nat_lt, true, false, if◌then◌else◌, List, [], ◌∷◌, ◌++◌, length, take, drop, slice_index, All, Option, Some, None}
 use Rattle.tao_io.specs.declared.lines.NextLine.{NextLine}
 use Rattle.tao_io.specs.declared.lines.NextLine.TheVariants.{Line, TooLong, End}
 use Rattle.tao_io.specs.Lines.{is_line_end, line_limit}
@@ -13,6 +13,23 @@ abbrev pub EndsLineAt : List ℕ → Option ℕ → Type 0
 EndsLineAt bytes None = NoLineEnd bytes
 EndsLineAt bytes (Some at) =
     (at < length bytes) × NoLineEnd (take at bytes) × (bytes ≡ take at bytes ++ 10 ∷ drop (at + 1) bytes)
+
+-- these bytes end lines, each of them
+abbrev pub EndsAlone : List ℕ → Type 0
+EndsAlone bytes = All (λ byte. is_line_end byte ≡ true) bytes
+
+-- the place of the first byte that ends no line, or none
+abbrev pub StartsLineAt : List ℕ → Option ℕ → Type 0
+StartsLineAt bytes None = EndsAlone bytes
+StartsLineAt bytes (Some at) = (at < length bytes) × EndsAlone (take at bytes) × (is_line_end (slice_index bytes at) ≡ false)
+
+-- the next line stands there whole, behind ends of lines, and its own end behind it
+abbrev pub HoldsLine : List ℕ → Type 0
+HoldsLine bytes = (ends line rest : List ℕ) × EndsAlone ends × NoLineEnd line × (0 < length line) × (bytes ≡ ends ++ line ++ 10 ∷ rest)
+
+-- at most a line's beginning stands there, behind ends of lines
+abbrev pub HoldsNoLine : List ℕ → Type 0
+HoldsNoLine bytes = (ends part : List ℕ) × EndsAlone ends × NoLineEnd part × (bytes ≡ ends ++ part)
 
 -- a line's first bytes, enough to see whether it is too long
 unfoldable pub held : List ℕ → List ℕ

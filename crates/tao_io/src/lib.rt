@@ -3,9 +3,11 @@
 //! What it promises. A call of a source or sink fails only where its count rose, and those in memory exactly at
 //! the planned calls (a sink also where it finds no memory); `write_all` writes all or a front; the lines of a
 //! source come whole and in order, a line past 1,048,576 bytes is passed over and never held whole, at most
-//! 65,536 bytes are taken past a line, and an input is given up exactly at 2^40 bytes.
+//! 65,536 bytes are taken past a line, and an input is given up exactly at 2^40 bytes. A reader tells whether the
+//! next line is at hand; a sink that is flushed took the same bytes.
 //!
-//! The contracts that say so: `Source::take`, `Sink::put`, `write_all`, `LineReader::next`.
+//! The contracts that say so: `Source::take`, `Sink::put`, `Sink::flush`, `write_all`, `LineReader::next`,
+//! `LineReader::has_line`.
 #![tactic(auto)]
 
 mod lines;

@@ -4,9 +4,10 @@ ghost use Rattle.std.specs.Io.KnownBytes.{ReadConsumes, Keeps, IsAtEnd};
 ghost use Rattle.counts.specs.Count.{Rose, HasCause};
 ghost use Rattle.tao_io.specs.LineReader.{to_come, may_give, input_limit, most_ahead};
 ghost use Rattle.tao_io.specs.Lines.{line_limit, NextLineIs, UsesSome, CountsTaken};
-ghost use Rattle.tao_io.specs.LineParts.{held, EndsLineAt, TakesToEnd, TakesAll, line_kind};
+ghost use Rattle.tao_io.specs.LineParts.{held, EndsLineAt, HoldsLine, HoldsNoLine, StartsLineAt, TakesToEnd, TakesAll, line_kind};
 
 use crate::{Source, SourceFailed};
+use memchr::memchr;
 use std::alloc::{AllocError, AllocFailed, Global};
 use std::error::Error;
 use std::fmt;
@@ -84,7 +85,14 @@ impl From<AllocError> for ReadFault {
 fn line_end(bytes: &[u8]) -> Option<usize>
     ensures { EndsLineAt bytes.now result }
 {
-    bytes.iter().position(|byte| *byte == b'\n')
+    memchr(b'\n', bytes)
+}
+
+/// The place of the first byte that ends no line.
+fn line_start(bytes: &[u8]) -> Option<usize>
+    ensures { StartsLineAt bytes.now result }
+{
+    bytes.iter().position(|byte| *byte != b'\n')
 }
 
 /// Takes some bytes into the front of a chunk, at most as many as there is room for.
@@ -157,6 +165,18 @@ impl LineReader {
             end: 0,
             taken: 0,
         })
+    }
+
+    /// Whether the next line stands whole ahead, so that `next` reads it without its source.
+    pub fn has_line(&self) -> bool
+        ensures whole { result ≡ true → HoldsLine self.now.ahead }
+        ensures none { result ≡ false → HoldsNoLine self.now.ahead }
+    {
+        let ahead = &self.chunk[self.at..self.end];
+        match line_start(ahead) {
+            Some(start) => line_end(&ahead[start..]).is_some(),
+            None => false,
+        }
     }
 
     /// Takes a chunk where no byte is ahead. Says whether there is one then: none is the end.

@@ -143,5 +143,9 @@ impl Sink for MemorySink {
         Ok(piece.len())
     }
 
+    fn flush(&mut self) -> Result<(), SinkFailed> {
+        Ok(())
+    }
+
     fn progress(&mut self, _done: u64, _all: u64) {}
 }

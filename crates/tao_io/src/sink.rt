@@ -1,7 +1,7 @@
 //! Sinks: where bytes go.
 ghost use Rattle.std.specs.Prelude.{ℕ, ◌≡◌, List, Option};
 ghost use Rattle.std.specs.Io.{WritesAtMost};
-ghost use Rattle.std.specs.Io.KnownBytes.{WriteAppends};
+ghost use Rattle.std.specs.Io.KnownBytes.{Keeps, WriteAppends};
 ghost use Rattle.counts.specs.Count.{HasCause};
 ghost use Rattle.tao_io.specs.Sink.{TakesSome};
 
@@ -35,6 +35,11 @@ pub trait Sink {
         ensures bytes { WriteAppends (taken self.old) (taken self.new) result piece.now }
         ensures cause { HasCause (faults self.old) (faults self.new) result }
         ensures some { TakesSome (faults self.old) (faults self.new) result piece.now };
+
+    /// Hands on what it took and still holds, so that who waits for it sees it. A sink that holds nothing back has nothing to do.
+    fn flush(&mut self) -> Result<(), SinkFailed>
+        ensures bytes { Keeps (taken self.old) (taken self.new) }
+        ensures cause { HasCause (faults self.old) (faults self.new) result };
 
     /// Is told that so many of all calls of a run are done, for who watches it. It takes no bytes by that.
     fn progress(&mut self, done: u64, all: u64)

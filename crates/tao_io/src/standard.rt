@@ -56,7 +56,7 @@ pub struct StdSink<W> {
 impl<W: Write> StdSink<W> {
     ghost use Rattle.tao_io.specs.Standard.{writer_of, write_faults};
 
-    /// A sink that hands what it takes to the writer. It does not flush.
+    /// A sink that hands what it takes to the writer, which may hold it back until it is flushed.
     pub fn of(writer: W) -> StdSink<W>
         ensures writer { writer_of result ≡ writer }
         ensures faults { write_faults result ≡ 0 }
@@ -83,6 +83,16 @@ impl<W: Write> Sink for StdSink<W> {
                 }
                 Ok(count)
             }
+            Err(_) => {
+                self.faults.rise();
+                Err(SinkFailed)
+            }
+        }
+    }
+
+    fn flush(&mut self) -> Result<(), SinkFailed> {
+        match self.writer.flush() {
+            Ok(()) => Ok(()),
             Err(_) => {
                 self.faults.rise();
                 Err(SinkFailed)

@@ -4,7 +4,7 @@ use Rattle.core_model.specs.Stores.{stores_in}
 use Rattle.plain_promise.proofs.AcknowledgedLemmas.{acknowledged_stands, stands_grown}
 use Rattle.plain_promise.specs.Acknowledged.{StandsAtPosition}
 use Rattle.plain_promise.specs.Promise.{HasEachOnce, IsWellKept, client_write_of}
-use Rattle.promise_kept.proofs.Going.{each_grows}
+use Rattle.headline_kept.proofs.promise_kept_lemmas.Going.{each_grows}
 use Rattle.request_check.specs.declared.checked.CheckedWrite.{CheckedWrite}
 use Rattle.tao_base.specs.Writes.{write_shard}
 use Rattle.tao_core.specs.Opened.{AreAsBefore}

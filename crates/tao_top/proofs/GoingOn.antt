@@ -3,8 +3,8 @@ use Rattle.std.proofs.Common.{◌≡◌, ℕ, ◌+◌, Bool, List, [], ◌∷◌
 use Rattle.std.proofs.lemmas.List.{append-nil, map-append, take_all}
 use Rattle.std.proofs.lemmas.Grind.{flat_map-append}
 use Rattle.std.proofs.Math.Seq.{take-append-add}
-use Rattle.std.specs.Io.KnownBytes.{Appends, IsAtEnd}
-use Rattle.std.proofs.KnownBytes.{Appends-trans, Appends-nil}
+use Rattle.std.specs.Io.KnownBytes.{Appends, IsAtEnd, Keeps}
+use Rattle.std.proofs.KnownBytes.{Appends-kept, Appends-nil, Appends-trans}
 use Rattle.tao_io.proofs.GivenLines.{GivesLines-nil, GivesLines-trans}
 use Rattle.tao_io.specs.Lines.{lines_of, GivesLines}
 use Rattle.core_nodes.specs.Outside.{Outside}
@@ -112,6 +112,11 @@ module _ (tells : Bool) where
   -- nothing yet
   pub served_none : (s : State) (left before : Option (List ℕ)) → Served tells s s (streams left before) (streams left before)
   served_none s left before = record { lines = []; replies = []; read = GivesLines-nil left; run = refl; written = Appends-nil before }
+
+  -- what was written was shown
+  pub served_shown : (s : State) (left before after : Option (List ℕ)) → Keeps before after → Served tells s s (streams left before) (streams left after)
+  served_shown s left before after kept =
+      record { lines = []; replies = []; read = GivesLines-nil left; run = refl; written = Appends-kept before before after [] (Appends-nil before) kept }
 
   pub served_trans : (a b c : State) (left rest last before mid after : Option (List ℕ)) → Served tells a b (streams left before) (streams rest mid)
       → Served tells b c (streams rest mid) (streams last after) → Served tells a c (streams left before) (streams last after)

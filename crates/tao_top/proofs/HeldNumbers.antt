@@ -14,12 +14,12 @@ use Rattle.core_plans.specs.declared.held.HeldPlan.{HeldPlan}
 use Rattle.core_plans.specs.declared.held.HeldPlan.TheVariants as of
 use Rattle.core_plans.specs.declared.leaders.Leaders.{Leaders}
 use Rattle.core_sessions.specs.Sessions.{Session}
-use Rattle.core_steps.specs.World.{World}
-use Rattle.promise_kept.proofs.HealthLines.{health_so}
-use Rattle.promise_kept.proofs.ReadLemmas.{IsReadReply, read_reply_is}
-use Rattle.promise_kept.proofs.Refusing.{end_refuses, stage_refuses}
-use Rattle.promise_kept.proofs.Settled.{unsettled_keeps}
-use Rattle.promise_kept.proofs.WritesOn.{refused_rests}
+use Rattle.headline_kept.specs.core_steps.World.{World}
+use Rattle.headline_kept.proofs.promise_kept_lemmas.HealthLines.{health_so}
+use Rattle.headline_kept.proofs.promise_kept_lemmas.ReadLemmas.{IsReadReply, read_reply_is}
+use Rattle.headline_kept.proofs.promise_kept_lemmas.Refusing.{end_refuses, stage_refuses}
+use Rattle.headline_kept.proofs.promise_kept_lemmas.Settled.{unsettled_keeps}
+use Rattle.headline_kept.proofs.promise_kept_lemmas.WritesOn.{refused_rests}
 use Rattle.replies.specs.declared.nodes.NodeReply.TheVariants.{Link}
 use Rattle.replies.specs.declared.plans.Stage.{Stage}
 use Rattle.replies.specs.declared.refusals.Refusal.{Refusal}

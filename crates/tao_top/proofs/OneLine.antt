@@ -2,8 +2,8 @@
 use Rattle.std.proofs.Common.{◌≡◌, ℕ, nat_le, Bool, false, List, [], ◌∷◌, length, Option, None, Result, Ok, Err, IfErr, OnErr, OnOk, inl, inr, refl}
 use Rattle.std.proofs.Common.{sym, ap, subst, arith}
 use Rattle.std.proofs.lemmas.Bool.Decides.{nat_tests}
-use Rattle.std.specs.Io.KnownBytes.{Appends}
-use Rattle.std.proofs.KnownBytes.{Appends-nil}
+use Rattle.std.specs.Io.KnownBytes.{Appends, Keeps}
+use Rattle.std.proofs.KnownBytes.{Appends-kept, Appends-nil}
 use Rattle.config_json.specs.Config.{config_in}
 use Rattle.config_json.specs.declared.refusal.ConfigRefusal.TheVariants.{BadConfig}
 use Rattle.json_fields.specs.Json.{json_of}
@@ -69,6 +69,11 @@ module _ (next : NextLine) (left rest : Option (List ℕ)) (line : List ℕ) (is
 -- the next line didn't come
 pub part_unread : (tells : Bool) (s : State) (left before : Option (List ℕ)) → ServedInPart tells s s.outside left before before
 part_unread tells s left before = part_none tells s s.outside left before before (Appends-nil before) (still_refl tells s.outside s refl)
+
+-- what was written couldn't be shown
+pub part_shown : (tells : Bool) (s : State) (left before after : Option (List ℕ)) → Keeps before after → ServedInPart tells s s.outside left before after
+part_shown tells s left before after kept =
+    part_none tells s s.outside left before after (Appends-kept before before after [] (Appends-nil before) kept) (still_refl tells s.outside s refl)
 
 -- ---- what was answered
 

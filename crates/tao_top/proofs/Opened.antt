@@ -12,9 +12,9 @@ use Rattle.core_plans.specs.declared.held.HeldPlan.TheVariants as of
 use Rattle.core_plans.specs.declared.held.LearntEntries.{LearntEntries}
 use Rattle.core_sessions.specs.Sessions.{Session, is_open, new_session, with_session}
 use Rattle.core_sessions.specs.declared.sessions.OpenSession.{OpenSession}
-use Rattle.core_steps.specs.declared.jobs.LearntEntry.{LearntEntry}
-use Rattle.promise_kept.proofs.HealthLines.{health_so}
-use Rattle.promise_kept.proofs.Settled.{unsettled_keeps}
+use Rattle.headline_kept.specs.core_steps.declared.jobs.LearntEntry.{LearntEntry}
+use Rattle.headline_kept.proofs.promise_kept_lemmas.HealthLines.{health_so}
+use Rattle.headline_kept.proofs.promise_kept_lemmas.Settled.{unsettled_keeps}
 use Rattle.replies.specs.declared.calls.CallReply.TheVariants as called
 use Rattle.replies.specs.declared.plans.Stage.{Stage}
 use Rattle.replies.specs.declared.nodes.NodeReply.TheVariants.{Link}

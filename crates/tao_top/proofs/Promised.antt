@@ -10,12 +10,12 @@ use Rattle.core_nodes.specs.Outside.{Outside}
 use Rattle.graph_model.specs.Told.{WhereTold}
 use Rattle.master_tables.proofs.Each.{each_same}
 use Rattle.plain_promise.specs.Promise.{AnswersNext, Plain, RunsPlainly, Said}
-use Rattle.promise_kept.proofs.Again.{kept_answers_again}
-use Rattle.promise_kept.proofs.Opening.{opened_seen}
-use Rattle.promise_kept.proofs.Requests.{requests_keep}
-use Rattle.promise_kept.specs.Lines.{Asks, GoesOnUsable, IsLine, KeptAnswersAgain, StepsPlainly}
-use Rattle.promise_kept.specs.Requests.{IsAskedAt, RequestsKeepPromise}
-use Rattle.promise_kept.specs.Seen.{IsPlainOf, opened_plain}
+use Rattle.headline_kept.proofs.promise_kept_lemmas.Again.{kept_answers_again}
+use Rattle.headline_kept.proofs.promise_kept_lemmas.Opening.{opened_seen}
+use Rattle.headline_kept.proofs.promise_kept_lemmas.Requests.{requests_keep}
+use Rattle.headline_kept.specs.promise_kept.Lines.{Asks, GoesOnUsable, IsLine, KeptAnswersAgain, StepsPlainly}
+use Rattle.headline_kept.specs.promise_kept.Requests.{IsAskedAt, RequestsKeepPromise}
+use Rattle.headline_kept.specs.promise_kept.Seen.{IsPlainOf, opened_plain}
 use Rattle.replies.specs.declared.refusals.LineRefused.TheVariants as line
 use Rattle.replies.specs.declared.refusals.Refusal.{Refusal}
 use Rattle.replies.specs.declared.refusals.Refusal.TheVariants.{Line, Memory}

@@ -1,18 +1,31 @@
 //! The lines of a run after its first, each with its reply.
 ghost use Rattle.std.specs.Prelude.{◌≡◌, ◌<◌, ◌≤◌, ◌^◌, Ok, true, false, IfErr, OnOk, OnErr, IsErrOf};
-ghost use Rattle.std.specs.Io.KnownBytes.{IsAtEnd};
+ghost use Rattle.std.specs.Io.KnownBytes.{IsAtEnd, Keeps};
 ghost use Rattle.tao_io.specs.LineReader.{may_give, to_come};
 ghost use Rattle.tao_io.specs.Lines.{CountsTaken};
 ghost use Rattle.tao_top.specs.Kept.{LeavesTables, MayServe};
 ghost use Rattle.core_nodes.specs.Outside.{outside};
 ghost use Rattle.tao_top.specs.Served.{Served, ServedAll, ServedInPart, serves, streams};
-ghost use Rattle.tao_top.specs.Stop.{FaultsGrow, InterruptHasCause, faults};
+ghost use Rattle.tao_top.specs.Stop.{FaultsGrow, InterruptHasCause, InterruptsWriting, faults};
 
 use crate::serving::Serving;
 use crate::stop::Interrupt;
 use tao_io::{LineReader, NextLine, Sink, Source};
 use tao_keeper::Keeper;
 use tao_link::Link;
+
+/// Shows the replies that were written, unless the next line is at hand: whoever is to write it may wait for them.
+fn show_replies<S: Sink>(reader: &LineReader, output: &mut S) -> Result<(), Interrupt>
+    ensures taken { Keeps (S.taken output.old) (S.taken output.new) }
+    ensures cause { IfErr result (InterruptsWriting (S.faults output.old) (S.faults output.new)) }
+    ensures later { S.faults output.old ≤ S.faults output.new }
+{
+    if reader.has_line() {
+        return Ok(());
+    }
+    output.flush()?;
+    Ok(())
+}
 
 /// Reads a line, answers it, and writes the reply. Says whether there was a line.
 #[tactic(auto, using(crate::proofs::Keeping::leaves_same))]
@@ -58,7 +71,7 @@ fn serve_line<R: Source, S: Sink, K: Keeper, L: Link>(
     }
 }
 
-/// Serves each line that is left.
+/// Serves each line that is left. The replies of lines that are at hand are shown together, each other one before the next line is waited for.
 pub(crate) fn serve<R: Source, S: Sink, K: Keeper, L: Link>(
     serving: &mut Serving<'_>,
     reader: &mut LineReader,
@@ -82,10 +95,11 @@ pub(crate) fn serve<R: Source, S: Sink, K: Keeper, L: Link>(
     ensures long { IsErrOf result Interrupt.InputTooLong → reader.new.taken ≡ 2 ^ 40 }
 
     ensures counted { CountsTaken (R.left input.old) (R.left input.new) reader.old.taken reader.new.taken }
-    ensures limited { reader.new.taken ≤ 2 ^ 40 }
+    ensures limited { reader.old.taken ≤ 2 ^ 40 → reader.new.taken ≤ 2 ^ 40 }
     ensures later { FaultsGrow (faults (R.faults input.old) (S.faults output.old)) (faults (R.faults input.new) (S.faults output.new)) }
 {
     'lines: loop {
+        show_replies(reader, output)?;
         if !serve_line(serving, reader, input, output, keepers, link)? {
             return Ok(());
         }

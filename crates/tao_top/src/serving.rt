@@ -27,13 +27,17 @@ use tao_core::Core;
 use tao_io::Sink;
 use tao_keeper::Keeper;
 use tao_link::Link;
-use tao_wire::{LineRefusal, LineRefused, OpenRefusal, Refusal, Reply, Request, read_request};
+use tao_wire::{
+    LineMemory, LineRefusal, LineRefused, OpenRefusal, Refusal, Reply, Request, read_request,
+};
 use topology::Config;
 
-/// A core, beside whence lines and replies take memory, and the configuration that it serves by and that spells the names in its replies.
+/// A core, beside whence lines and replies take memory, what reading a line takes, and the configuration that it serves by and that spells
+/// the names in its replies.
 #[derive(Drop)]
 pub(crate) struct Serving<'c> {
     alloc: Global,
+    memory: LineMemory,
     config: &'c Config,
     core: Core<'c>,
 }
@@ -80,6 +84,7 @@ impl<'c> Serving<'c> {
         let core = Core::open(alloc, config, line, keepers)?;
         Ok(Serving {
             alloc,
+            memory: LineMemory::new(alloc),
             config,
             core,
         })
@@ -158,7 +163,7 @@ impl<'c> Serving<'c> {
         ensures tables { LeavesTables K.TELLS (K.state keepers.old) (K.state keepers.new) }
         ensures later { IsLater (K.state keepers.old) (K.state keepers.new) }
     {
-        match read_request(self.alloc, line) {
+        match read_request(self.alloc, &mut self.memory, line) {
             Ok(request) => {
                 let reply = self.call(keepers, link, &request);
                 drop(request);

@@ -1,3 +1,4 @@
+use Rattle.std.proofs.Common.{◌≤◌, ◌^◌}
 use Rattle.tao_io.specs.LineReader.{may_give, to_come}
 use Rattle.tao_io.specs.Lines.{CountsTaken}
 use Rattle.tao_top.specs.Kept.{LeavesTables, MayServe}
@@ -18,6 +19,7 @@ invariant-lines g l =
           (streams (to_come l.reader (left l.input)) (taken l.output));
       serving : MayServe g.K.Keeper.TELLS l.serving (g.K.Keeper.state l.keepers).told;
       counted : CountsTaken (left l.fn.input) (left l.input) l.fn.reader.taken l.reader.taken;
+      limited : l.fn.reader.taken ≤ 2 ^ 40 → l.reader.taken ≤ 2 ^ 40;
       tables : LeavesTables g.K.Keeper.TELLS (keepers l.fn.keepers) (keepers l.keepers);
       later : FaultsGrow (faults (g.R.Source.faults l.fn.input) (g.S.Sink.faults l.fn.output)) (faults (g.R.Source.faults l.input) (g.S.Sink.faults l.output));
     }

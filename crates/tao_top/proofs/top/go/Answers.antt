@@ -135,7 +135,7 @@ returns-in_err-serving-clause-at_stores g c = λ _.
 pub returns-in_err-served-in-Run-clause-taken : goal.returns-in_err-served-in-Run-clause-taken
 returns-in_err-served-in-Run-clause-taken g c =
     takes_counted _ _ _ _ c.in_ok-reader.ensures.taken
-    (CountsTaken-trans _ _ _ _ _ _ c.read_first.ensures.counted c.serve-served.ensures.counted) c.serve-served.ensures.limited
+    (CountsTaken-trans _ _ _ _ _ _ c.read_first.ensures.counted c.serve-served.ensures.counted) (c.serve-served.ensures.limited c.read_first.ensures.limited)
 
 pub returns-in_err-served-in-Run-clause-tables : goal.returns-in_err-served-in-Run-clause-tables
 returns-in_err-served-in-Run-clause-tables g c = leaves_then _ _ _ _ c.begin.ensures.tables c.serve-served.ensures.tables
@@ -143,7 +143,7 @@ returns-in_err-served-in-Run-clause-tables g c = leaves_then _ _ _ _ c.begin.ens
 pub returns-in-Run-clause-taken : goal.returns-in-Run-clause-taken
 returns-in-Run-clause-taken g c =
     takes_counted _ _ _ _ c.in_ok-reader.ensures.taken
-    (CountsTaken-trans _ _ _ _ _ _ c.read_first.ensures.counted c.serve-served.ensures.counted) c.serve-served.ensures.limited
+    (CountsTaken-trans _ _ _ _ _ _ c.read_first.ensures.counted c.serve-served.ensures.counted) (c.serve-served.ensures.limited c.read_first.ensures.limited)
 
 pub returns-in-Run-clause-asked : goal.returns-in-Run-clause-asked
 returns-in-Run-clause-asked g c =

@@ -1,2 +1,3 @@
+mod KeptReads
 pub mod OneLine
 pub mod TextOf

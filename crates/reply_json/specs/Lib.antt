@@ -3,6 +3,7 @@ pub mod Json
 pub mod Nodes
 pub mod OneLine
 pub mod Plans
+pub mod Reads
 pub mod Refusals
 pub mod Reply
 pub mod Said

@@ -11,6 +11,7 @@
 mod calls;
 mod nodes;
 mod plans;
+mod reads;
 mod refusals;
 mod reply;
 mod said;

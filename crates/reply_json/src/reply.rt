@@ -9,9 +9,10 @@ ghost use Rattle.topology.specs.Config.{Settings};
 use crate::calls::put_call;
 use crate::nodes::put_node;
 use crate::plans::put_plan;
+use crate::reads::{kept_read, kept_text};
 use crate::refusals::put_refusal;
 use crate::said::{Said, answer_name, said_answer};
-use crate::spelled::put_members;
+use crate::spelled::{ROOM, put_members};
 use json::Writer;
 use node_name::NodeName;
 use replies::Reply;
@@ -20,13 +21,21 @@ use tao_base::{Answer, Bytes, OutOfMemory, StoreName};
 use topology::Config;
 use words::Word;
 
-/// The bytes that a reply's text has room for from the start: more than those of most replies.
-const ROOM: usize = 512;
-
 /// The text of a reply: JSON with no space, the members in ascending order of the bytes of their names,
 /// and no line feed at its end. The configuration tells the names of regions, tiers and object types.
 /// Takes time and memory in the length of the text.
 pub fn reply_text(alloc: Global, config: &Config, reply: &Reply) -> Result<Bytes, OutOfMemory>
+    ensures text { IfOk result (λ bytes. bytes ≡ reply_text config.now reply.now) }
+    ensures one_line { IfOk result IsOneLine }
+{
+    match kept_read(reply) {
+        Some(read) => Ok(Bytes::of(kept_text(alloc, config, read)?)),
+        None => spelled_text(alloc, config, reply),
+    }
+}
+
+/// The text of any reply, written a part at a time.
+fn spelled_text(alloc: Global, config: &Config, reply: &Reply) -> Result<Bytes, OutOfMemory>
     ensures text { IfOk result (λ bytes. bytes ≡ reply_text config.now reply.now) }
     ensures one_line { IfOk result IsOneLine }
 {

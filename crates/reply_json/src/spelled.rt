@@ -8,6 +8,9 @@ ghost use Rattle.reply_json.specs.Writing.{Puts};
 use json::Writer;
 use std::alloc::AllocError;
 
+/// The bytes that a reply's text has room for from the start: more than those of most replies.
+pub(crate) const ROOM: usize = 512;
+
 /// What JSON spells.
 pub(crate) trait Spelled {
     ghost value: { Self → Data };

@@ -1,18 +1,14 @@
-use Rattle.std.proofs.Common.{◌∙◌, subst, sym}
-use Rattle.reply_json.proofs.TextOf.{text_of, one_line}
+use Rattle.std.proofs.Common.{◌≡◌, ◌∙◌, ap, subst, sym}
+use Rattle.reply_json.proofs.KeptReads.{read_spelled}
+use Rattle.reply_json.proofs.OneLine.{text_free}
 use Rattle.reply_json.specs.OneLine.{IsOneLine}
-use Rattle.reply_json.specs.Reply.{data_of}
+use Rattle.reply_json.specs.Reply.{data_of, reply_text}
 use Rattle.reply_json.proofs.reply.reply_text.Goals as goal
 
-pub returns : goal.returns
-returns c =
-    let d = data_of c.args.config.now c.args.reply.now in
-    let old = c.new-out.result in
-    let new = c.put_reply.new.out in
-    let nothing = c.new-out.ensures.before ∙ c.in_ok-with_capacity.ensures.items in
-    let tokens = c.in_ok-put_reply.ensures.tokens in
-    record {
-      text = c.of.ensures ∙ text_of d old new _ nothing c.new-out.ensures.tokens c.put_reply.ensures.before tokens c.into_inner.ensures.items;
-      one_line = subst IsOneLine (sym c.of.ensures) (one_line d old new _ nothing c.new-out.ensures.tokens c.put_reply.ensures.before tokens
-          c.into_inner.ensures.items);
-    }
+pub returns-in_ok-kept_text-in-Some : goal.returns-in_ok-kept_text-in-Some
+returns-in_ok-kept_text-in-Some c =
+    let s = c.args.config.now in
+    let same : c.of.result ≡ reply_text s c.args.reply.now =
+    c.of.ensures ∙ c.in_ok-kept_text-in-Some.ensures ∙ read_spelled s c.in-Some.read.now c.in-Some.ensures.1
+    ∙ ap (reply_text s) (sym c.in-Some.ensures.0) in
+    record { text = same; one_line = subst IsOneLine (sym same) (text_free (data_of s c.args.reply.now)) }

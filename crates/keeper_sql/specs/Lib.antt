@@ -1,1 +1,2 @@
+pub mod MetIds
 pub mod Untold

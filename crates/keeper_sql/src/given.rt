@@ -1,5 +1,5 @@
 //! What a keeper may hand out: rows are held to it.
-ghost use Rattle.std.specs.Prelude.{◌≡◌, ◌<◌, ◌≤◌, IfOk, IsTrue};
+ghost use Rattle.std.specs.Prelude.{◌≡◌, ◌<◌, ◌≤◌, All, IfOk, IsTrue, length};
 ghost use Rattle.graph_model.specs.Edges.{number_of, state_left};
 ghost use Rattle.tao_keeper.specs.Given.{AreGiven, IsGivenEntry, IsGivenJob, IsGivenRole, IsPosition};
 ghost use Rattle.tao_base.specs.Stamps.{stamp_of};
@@ -126,19 +126,28 @@ pub(crate) fn job(job: Job, position: u64) -> Result<Job, KeepFail>
     }
 }
 
-fn are_given(edges: &[Edge], most: u64) -> bool
-    ensures { IsTrue result → AreGiven most edges.now }
+/// Whether there are no more edges than that, and all stamps are small enough.
+fn are_bounded(edges: &[Edge], most: u64) -> bool
+    ensures { IsTrue result → (length edges.now ≤ most) × All (λ e. e.stamp.number < STAMP_LIMIT) edges.now }
 {
-    edges.len() as u64 <= most
-        && edges.iter().all(|edge| edge.stamp.number < STAMP_LIMIT)
-        && is_in_list_order(edges)
+    edges.len() as u64 <= most && edges.iter().all(|edge| edge.stamp.number < STAMP_LIMIT)
 }
 
-/// The edges, where they may be handed out for so many that were asked for.
+fn are_given(edges: &Vec<Edge>, most: u64) -> Result<bool, KeepFail>
+    ensures { IfOk result (λ yes. IsTrue yes → AreGiven most edges.now.items) }
+{
+    if are_bounded(edges, most) {
+        Ok(is_in_list_order(*edges.allocator(), edges)?)
+    } else {
+        Ok(false)
+    }
+}
+
+/// The edges, where they may be handed out for so many that were asked for. Takes a look-up for each among the ids of those behind it.
 pub(crate) fn edges(edges: Vec<Edge>, most: u64) -> Result<Edges, KeepFail>
     ensures { IfOk result (λ given. (given ≡ edges.items) × AreGiven most given) }
 {
-    if are_given(&edges, most) {
+    if are_given(&edges, most)? {
         Ok(Edges::of(edges))
     } else {
         Err(KeepFail::Failed)

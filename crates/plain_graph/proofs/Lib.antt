@@ -1,4 +1,3 @@
 pub mod LastObject
 pub mod LastRecord
 pub mod Listed
-pub mod Mapped

@@ -13,9 +13,9 @@ use tao_schema::Schema;
 /// What the log of these entries answers to a query. A range or a time range gives no more edges
 /// than the schema's bound for the type of the list.
 ///
-/// Reads all entries, and for a list keeps its edges in order through each of its changes, in time
-/// of their product. Refers to each change at the query's key, and copies the object or the edges
-/// that it gives; a count copies nothing. The one error is out of memory.
+/// Reads all entries, and takes a list through each of its changes, with a look-up for each among the
+/// ids and the edges so far. Refers to each change at the query's key, and copies the object, or each
+/// edge that is set, then the list's edges and those that it gives. The one error is out of memory.
 pub fn answer(
     alloc: Global,
     entries: &[Entry],
@@ -46,5 +46,6 @@ fn of_list(
     ensures { IfOk result (λ found. found ≡ assoc_answer (types_of schema.now) entries.now id1 atype query.now) }
 {
     let list = list_of(alloc, entries, id1, atype)?;
-    answer_of(alloc, &list, list.len() as u64, query, schema.bound(atype))
+    let edges = list.as_slice();
+    answer_of(alloc, edges, edges.len() as u64, query, schema.bound(atype))
 }

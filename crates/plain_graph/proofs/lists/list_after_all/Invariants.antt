@@ -1,6 +1,0 @@
-use Rattle.std.proofs.Common.{◌≡◌, map, take}
-use Rattle.graph_model.specs.Edges.{live_edges, newest_first}
-use Rattle.plain_graph.proofs.lists.list_after_all.Given as goal
-
-abbrev pub invariant-loop-change : goal.invariant-loop-change
-invariant-loop-change l = map (λ e. e.now) l.edges.items ≡ newest_first (live_edges (map (λ c. c.now) (take l.change-index l.changes)))

@@ -5,7 +5,7 @@ use Rattle.std.specs.Bool.{OnTrue}
 use Rattle.std.specs.Option.{option_map}
 use Rattle.cache_items.specs.Node.{Node}
 use Rattle.graph_model.specs.Told.{WhereTold}
-use Rattle.leader_tier.specs.LeaderReads.{IsLegalAt, at_floor}
+use Rattle.core_model.specs.leader_tier.LeaderReads.{IsLegalAt, at_floor}
 use Rattle.node_name.specs.declared.NodeName.{NodeName}
 use Rattle.served_shards.specs.Served.{ServedShard, log_at, served_at, view_at}
 use Rattle.shard_log.proofs.GrowthLemmas.{grows-self}

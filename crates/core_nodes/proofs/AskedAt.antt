@@ -2,7 +2,7 @@
 use Rattle.std.proofs.Common.{◌≡◌, ℕ, List, Some, IfOk, Result, Ok, Err}
 use Rattle.std.specs.Prelude.{slice_index_or, slice_set}
 use Rattle.cache_items.specs.Node.{Node}
-use Rattle.leader_tier.specs.LeaderReads.{GivesAnswer, asked_read}
+use Rattle.core_model.specs.leader_tier.LeaderReads.{GivesAnswer, asked_read}
 use Rattle.node_name.specs.declared.NodeName.{NodeName}
 use Rattle.shard_tables.specs.StoreView.{Store}
 use Rattle.shard_tables.specs.declared.leader_answer.LeaderAnswer.{LeaderAnswer}

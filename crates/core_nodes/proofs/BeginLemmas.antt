@@ -34,7 +34,7 @@ use Rattle.core_nodes.specs.Beginning.{AreFirstLengths, AreLengths, AreMeasured,
 use Rattle.core_nodes.specs.Beginning.{begun_node, note_in, note_or_none}
 use Rattle.node_stages.specs.declared.standing.Stand.{Stand}
 use Rattle.node_stages.proofs.NotesSeen.{role_entries, role_grows, seen_long}
-use Rattle.leader_tier.proofs.LegalReads.{role_log}
+use Rattle.core_model.proofs.leader_tier_lemmas.LegalReads.{role_log}
 use Rattle.core_nodes.proofs.OpenLemmas.{place_within}
 
 -- ---- the lengths of the logs

@@ -6,7 +6,7 @@ use Rattle.std.specs.Vec.{with_items}
 use Rattle.std.proofs.lemmas.List.{with_items_is}
 use Rattle.cache_items.specs.Node.{Node}
 use Rattle.follower_cache.specs.Seen.{FollowerState}
-use Rattle.leader_tier.specs.TakenWrites.{TakesWritten, taken_entry}
+use Rattle.core_model.specs.leader_tier.TakenWrites.{TakesWritten, taken_entry}
 use Rattle.node_name.specs.declared.NodeName.{NodeName}
 use Rattle.shard_log.proofs.Beginnings.{begins-self}
 use Rattle.shard_log.specs.View.{Grows, View, as_note}

@@ -4,7 +4,7 @@ use Rattle.cache_items.specs.Node.{Node}
 use Rattle.cache_items.specs.declared.look.Kept.{Kept}
 use Rattle.cache_node.specs.Answered.{ViewAnswers}
 use Rattle.follower_cache.specs.Seen.{FollowerState}
-use Rattle.leader_tier.specs.LeaderReads.{IsLegalAt}
+use Rattle.core_model.specs.leader_tier.LeaderReads.{IsLegalAt}
 use Rattle.node_name.specs.declared.NodeName.{NodeName}
 use Rattle.sealed_item.specs.Fills.{SealedItem}
 use Rattle.shard_tables.specs.StoreView.{Store}

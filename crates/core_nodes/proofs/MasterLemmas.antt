@@ -3,7 +3,7 @@ use Rattle.std.proofs.Common.{◌≡◌, ℕ, ◌≤◌, Bool, true, List, IfOk,
 use Rattle.counts.specs.Count.{Rose}
 use Rattle.graph_model.specs.Log.{version as version_of}
 use Rattle.graph_model.specs.Told.{WhereTold}
-use Rattle.leader_tier.proofs.LegalReads.{read_is_seen, read_log}
+use Rattle.core_model.proofs.leader_tier_lemmas.LegalReads.{read_is_seen, read_log}
 use Rattle.shard_log.proofs.GrowthLemmas.{grows-self}
 use Rattle.shard_log.specs.View.{Grows, LogName, View}
 use Rattle.shard_tables.specs.ReadOuts.{IsFor, IsReadOutOf, read_note}

@@ -12,3 +12,5 @@ pub mod Shown
 pub mod Stages
 pub mod Streams
 pub mod Trimming
+pub use Rattle.edge_repair.specs as edge_repair
+pub use Rattle.node_stages.specs as node_stages

@@ -14,9 +14,9 @@ ghost use Rattle.tao_keeper.specs.KeeperState.{IsLater, KeepsTables};
 use crate::notes::note_at;
 use crate::settling::{SettleStop, stop_at};
 use crate::stores::region_store;
+use core_model::leader_tier::Leader;
 use core_model::{Named, follower_names, leader_names, region_of, served_by, store_place};
 use follower_cache::Follower;
-use leader_tier::Leader;
 use node_name::NodeName;
 use node_stages::{Cache, Stand};
 use replies::OpenRefusal;
@@ -28,9 +28,9 @@ use topology::Config;
 
 /// The leaders and followers of a core.
 #[derive(Drop)]
-pub(crate) struct Caches {
-    pub(crate) leaders: Vec<Named<Leader>>,
-    pub(crate) followers: Vec<Named<Follower>>,
+pub struct Caches {
+    pub leaders: Vec<Named<Leader>>,
+    pub followers: Vec<Named<Follower>>,
 }
 
 /// The length of a store's log. One call of the keeper.
@@ -182,7 +182,7 @@ fn make_caches(
 
 /// The leaders and followers of a configuration, which hold nothing yet: each has processed all that its region's stores have.
 /// One call of the keeper for each store.
-pub(crate) fn begin<K: Keeper>(
+pub fn begin<K: Keeper>(
     alloc: Global,
     config: &Config,
     stores: &mut [StoreNode],

@@ -2,8 +2,8 @@
 ghost use Rattle.std.specs.Prelude.{◌≡◌};
 
 use core_model::Named;
+use core_model::leader_tier::Leader;
 use follower_cache::Follower;
-use leader_tier::Leader;
 use shard_tables::StoreNode;
 use std::marker::Model;
 
@@ -36,6 +36,24 @@ pub struct FleetParts {
 }
 
 impl Fleet {
+    /// A core's nodes of these, in their order. Takes no memory.
+    pub fn of_parts(parts: FleetParts) -> Fleet
+        ensures leaders { result.leaders ≡ parts.leaders.items }
+        ensures followers { result.followers ≡ parts.followers.items }
+        ensures stores { result.stores ≡ parts.stores.items }
+    {
+        let FleetParts {
+            leaders,
+            followers,
+            stores,
+        } = parts;
+        Fleet {
+            leaders,
+            followers,
+            stores,
+        }
+    }
+
     /// Takes the nodes of a core apart, in their order, for who puts each behind a lock of its own. Takes no memory.
     pub fn into_parts(self) -> FleetParts
         ensures leaders { result.leaders.items ≡ self.leaders }

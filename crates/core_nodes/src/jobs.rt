@@ -15,7 +15,7 @@ ghost use Rattle.core_nodes.specs.Outside.{outside};
 ghost use Rattle.core_nodes.specs.Stages.{NodeIs, taken_by};
 ghost use Rattle.edge_repair.specs.declared.refusal.RepairRefusal.TheVariants as repair;
 ghost use Rattle.graph_model.specs.Told.{WhereTold};
-ghost use Rattle.leader_tier.specs.TakenWrites.{TakesWritten, taken_entry};
+ghost use Rattle.core_model.specs.leader_tier.TakenWrites.{TakesWritten, taken_entry};
 ghost use Rattle.node_stages.specs.Stages.{LeaderDoes};
 ghost use Rattle.served_shards.specs.Served.{log_at};
 ghost use Rattle.shard_log.specs.View.{as_note};
@@ -31,12 +31,12 @@ ghost use Rattle.tao_schema.specs.Schema.{types_of};
 
 use crate::fleet::Fleet;
 use crate::stores::{master_store, region_store};
+use core_model::leader_tier::Leader;
 use core_model::{
     Around, Named, ShardJob, far_shard, master_of, masters_are_regions, named_place,
     serves_in_turn, store_place,
 };
 use edge_repair::{RepairOutcome, RepairRefusal, merge_far};
-use leader_tier::Leader;
 use node_name::NodeName;
 use node_stages::merge_of;
 use shard_tables::{StoreNode, StoreRefusal, Wrote, inverses_match};

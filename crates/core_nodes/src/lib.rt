@@ -26,7 +26,7 @@
 //! The contracts that say so: `Fleet::open`, `look`, `ask_at_once`, `ask`, `read_store`, `notes`, `note`, `renew`,
 //! `keep`, `end_ask`, `commit`, `merge`, `merge_far`, `end_job`, `first_job`, `apply`, `evict`, `deliver`,
 //! `next_refill`, `lengths`, `shard_lengths`, `catch_up`, `go_down`, `come_up`, `next_entry`, `take_streamed`, `relay`, `item`, `mark`,
-//! `restart`, `least_mark`, `names_behind`, `cut_log`, `into_parts`; the
+//! `restart`, `least_mark`, `names_behind`, `cut_log`, `into_parts`, `of_parts`; `begin`; the
 //! law `nodes_catch_up`.
 #![tactic(auto)]
 
@@ -51,9 +51,11 @@ mod streams;
 mod trimming;
 mod writes;
 
+pub use beginning::{Caches, begin};
 pub use catching::Ends;
 pub use deliveries::Delivery;
 pub use fleet::{Fleet, FleetParts};
+pub use node_stages;
 pub use node_stages::FirstLook;
 pub use settling::{SettleStop, shard_lengths};
 pub use stores::{master_store, region_store};

@@ -14,8 +14,8 @@ ghost use Rattle.tao_keeper.specs.Table.{Tables};
 ghost use Rattle.tao_schema.specs.Schema.{types_of};
 
 use crate::fleet::Fleet;
+use core_model::leader_tier::Leader;
 use core_model::{Named, named_place, serves_in_turn};
-use leader_tier::Leader;
 use node_name::NodeName;
 use node_stages::relay_of;
 use shard_log::Note;

@@ -13,7 +13,7 @@ ghost use Rattle.core_nodes.specs.MasterWrites.{asked_of_master};
 ghost use Rattle.core_nodes.specs.Stages.{NodeIs, taken_by};
 ghost use Rattle.graph_model.specs.Soundness.{is_client};
 ghost use Rattle.graph_model.specs.Told.{WhereTold};
-ghost use Rattle.leader_tier.specs.TakenWrites.{TakesWritten, taken_entry};
+ghost use Rattle.core_model.specs.leader_tier.TakenWrites.{TakesWritten, taken_entry};
 ghost use Rattle.node_stages.specs.Stages.{FollowerDoes, LeaderDoes};
 ghost use Rattle.served_shards.specs.Served.{log_at};
 ghost use Rattle.shard_log.specs.View.{as_note};
@@ -25,12 +25,12 @@ ghost use Rattle.tao_schema.specs.Schema.{types_of};
 
 use crate::fleet::Fleet;
 use crate::stores::region_store;
+use core_model::leader_tier::Leader;
 use core_model::{
     Around, AuthoredWrite, Named, master_of, masters_are_regions, named_place, serves_in_turn,
     store_place,
 };
 use follower_cache::Follower;
-use leader_tier::Leader;
 use node_name::NodeName;
 use node_stages::{apply_of, commit_of};
 use shard_log::Note;

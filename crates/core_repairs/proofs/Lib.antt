@@ -1,3 +1,4 @@
 mod RepairLemmas
 mod RunLemmas
 mod StreamEnds
+pub use Rattle.core_steps.proofs as core_steps_lemmas

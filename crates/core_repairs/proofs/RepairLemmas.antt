@@ -26,9 +26,9 @@ use Rattle.tao_link.specs.Shown.{LinkShown}
 use Rattle.topology.specs.Choices.{master_region}
 use Rattle.topology.specs.Config.{Settings}
 use Rattle.topology.specs.States.{NodeStates}
-use Rattle.core_mail.proofs.Arrivals.{arrived_stay, notified_of_store}
-use Rattle.core_mail.proofs.InboxLemmas.{inboxes_stay}
-use Rattle.core_mail.specs.Inboxes.{AreInboxesOf, HaveArrived, Inboxes, Sends, entry_message}
+use Rattle.core_steps.proofs.core_mail_lemmas.Arrivals.{arrived_stay, notified_of_store}
+use Rattle.core_steps.proofs.core_mail_lemmas.InboxLemmas.{inboxes_stay}
+use Rattle.core_steps.specs.core_mail.Inboxes.{AreInboxesOf, HaveArrived, Inboxes, Sends, entry_message}
 use Rattle.core_model.specs.Consistent.{GoesOn, IsConsistent}
 use Rattle.core_model.specs.Fleet.{Fleet}
 use Rattle.core_model.specs.Growing.{StoresGrow}
@@ -37,11 +37,11 @@ use Rattle.core_model.specs.Messages.{IsOfStore, notified_besides, notified_of}
 use Rattle.core_model.specs.Pens.{pens_of}
 use Rattle.core_model.specs.States.{AreStatesOf}
 use Rattle.core_model.specs.Stores.{AreStoresOf, HaveMasterRegions, master_store, store_length}
-use Rattle.core_nodes.proofs.FleetLemmas.{goes_self}
-use Rattle.core_nodes.proofs.GrowingLemmas.{stays_stores}
-use Rattle.core_nodes.specs.Repairs.{ComesBack, MergesFar, carry_back, carry_there}
-use Rattle.core_nodes.specs.Outside.{Outside, outside}
-use Rattle.core_nodes.specs.Settling.{IsLaterLink}
+use Rattle.core_steps.proofs.core_nodes_lemmas.FleetLemmas.{goes_self}
+use Rattle.core_steps.proofs.core_nodes_lemmas.GrowingLemmas.{stays_stores}
+use Rattle.core_steps.specs.core_nodes.Repairs.{ComesBack, MergesFar, carry_back, carry_there}
+use Rattle.core_steps.specs.core_nodes.Outside.{Outside, outside}
+use Rattle.core_steps.specs.core_nodes.Settling.{IsLaterLink}
 use Rattle.core_steps.proofs.LinkLemmas.{both_carries, failed_back, failed_carry, link_self}
 use Rattle.core_steps.proofs.PostsLemmas.{posts_same}
 use Rattle.core_steps.proofs.NotifyLemmas.{arrived_grows, master_is, sends_both, within_master}

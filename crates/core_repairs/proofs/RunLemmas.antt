@@ -32,8 +32,8 @@ use Rattle.write_model.specs.Steps.{EndsJob, IsNextJob, IsOwed, MergesJob}
 use Rattle.core_model.specs.Fleet.{Fleet}
 use Rattle.core_model.specs.Jobs.{EndsOwed, IsFirstJobOf, OwesShardJob, MergesOwed, ShardJob, job_on}
 use Rattle.core_model.specs.Stores.{AreKeptIn, master_log, masters_of, stores_in}
-use Rattle.core_nodes.specs.Settling.{IsLaterLink}
-use Rattle.core_nodes.specs.declared.settling.SettleStop.{SettleStop}
+use Rattle.core_steps.specs.core_nodes.Settling.{IsLaterLink}
+use Rattle.core_steps.specs.core_nodes.declared.settling.SettleStop.{SettleStop}
 use Rattle.core_steps.proofs.LinkLemmas.{both_carries, link_stays, link_trans}
 use Rattle.core_steps.specs.World.{World}
 use Rattle.core_repairs.specs.Repairs.{AreSettling, FailsToEnd, FailsToMerge, FindsNoJob, FailureHasCause, HasNoneUpTo, HaveNoneBelow, HaveRun}

@@ -24,10 +24,10 @@ use Rattle.topology.specs.Config.{Settings}
 use Rattle.write_model.specs.Merges.{no_epochs}
 use Rattle.core_model.specs.Fleet.{Fleet}
 use Rattle.core_model.specs.Stores.{master_log, master_of, master_store, region_store, stores_in}
-use Rattle.core_nodes.specs.Opening.{IsSlaveStore}
-use Rattle.core_nodes.specs.Settling.{IsLaterLink}
-use Rattle.core_nodes.specs.Streams.{HasAll, IsToCarry, StreamsTo, next_position}
-use Rattle.core_nodes.specs.declared.settling.SettleStop.{SettleStop}
+use Rattle.core_steps.specs.core_nodes.Opening.{IsSlaveStore}
+use Rattle.core_steps.specs.core_nodes.Settling.{IsLaterLink}
+use Rattle.core_steps.specs.core_nodes.Streams.{HasAll, IsToCarry, StreamsTo, next_position}
+use Rattle.core_steps.specs.core_nodes.declared.settling.SettleStop.{SettleStop}
 use Rattle.core_steps.proofs.LinkLemmas.{carried_on, link_stays, link_trans}
 use Rattle.core_steps.specs.Posting.{ChangesNoNode}
 use Rattle.core_steps.specs.Streams.{NeedsNoCarry, OnlyReadsKeepers, RefusesStream, StreamsEntry, StreamsNothing, StreamsOver, TakesAs}

@@ -1,13 +1,13 @@
 -- Repairs: what becomes of the first open job of a shard, and of all jobs in a settle.
 use Rattle.std.specs.Prelude.{ℕ, ◌≡◌, ◌≤◌, ◌<◌, ◌+◌, ◌⊎◌, ◌++◌, ⊤, Bool, List, [], ◌∷◌, Option, Some, None, Result, Ok, Err}
 use Rattle.counts.specs.Count.{Rose}
-use Rattle.core_mail.specs.Inboxes.{Inboxes, Sends, entry_message}
+use Rattle.core_steps.specs.core_mail.Inboxes.{Inboxes, Sends, entry_message}
 use Rattle.core_model.specs.Jobs.{EndsOwed, IsFirstJobOf, ShardJob, far_shard, job_on}
 use Rattle.core_model.specs.Messages.{notified_besides, notified_of}
 use Rattle.core_model.specs.Stores.{master_store, stores_in}
-use Rattle.core_nodes.specs.Repairs.{MergesFar}
-use Rattle.core_nodes.specs.Outside.{Outside, outside}
-use Rattle.core_nodes.specs.declared.settling.SettleStop.{SettleStop}
+use Rattle.core_steps.specs.core_nodes.Repairs.{MergesFar}
+use Rattle.core_steps.specs.core_nodes.Outside.{Outside, outside}
+use Rattle.core_steps.specs.core_nodes.declared.settling.SettleStop.{SettleStop}
 use Rattle.edge_repair.specs.declared.refusal.RepairRefusal.{RepairRefusal}
 use Rattle.edge_repair.specs.declared.refusal.RepairRefusal.TheVariants.{KeeperFault, LinkFault, LogFull, OutOfMemory}
 use Rattle.graph_model.specs.Told.{WhereTold}

@@ -3,9 +3,9 @@ use Rattle.std.specs.List.{AllByRecursion}
 use Rattle.std.specs.Prelude.{ℕ, ◌≡◌, ◌≤◌, ◌<◌, ◌⊎◌, ◌&&◌, ⊤, Bool, List, [], ◌∷◌, None, Result, Ok, Err, false, nat_lt, true}
 use Rattle.counts.specs.Count.{Rose}
 use Rattle.core_model.specs.Stores.{AreWhole, IsConfiguredStore, master_log, stores_in}
-use Rattle.core_nodes.specs.Opening.{IsSlaveStore}
-use Rattle.core_nodes.specs.declared.settling.SettleStop.{SettleStop}
-use Rattle.core_nodes.specs.declared.settling.SettleStop.TheVariants as stop
+use Rattle.core_steps.specs.core_nodes.Opening.{IsSlaveStore}
+use Rattle.core_steps.specs.core_nodes.declared.settling.SettleStop.{SettleStop}
+use Rattle.core_steps.specs.core_nodes.declared.settling.SettleStop.TheVariants as stop
 use Rattle.core_steps.specs.Streams.{OnlyReadsKeepers, RefusesStream, StreamsEntry, StreamsOver}
 use Rattle.core_steps.specs.World.{World}
 use Rattle.core_steps.specs.declared.streaming.AskedStream.{AskedStream}

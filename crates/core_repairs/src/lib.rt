@@ -14,7 +14,7 @@
 //! next, with one carry, and nothing else is done but that keepers are read. Then every store has all of its shard's log; the shards' own logs and
 //! open jobs are as they were. One that stops at a store has moved the streams before it to their ends.
 //!
-//! The contracts that say so: `repair_first`, `run_jobs`, `run_streams`; `RepairsFirst`, `RunsJobs`, `RunsStreams`.
+//! The contracts that say so: `repair_first`, `run_jobs`, `run_streams`, `unsettled_as`; `RepairsFirst`, `RunsJobs`, `RunsStreams`.
 #![tactic(auto)]
 
 mod repairs;
@@ -22,6 +22,8 @@ mod runs;
 mod stops;
 mod streams;
 
+pub use core_steps;
 pub use repairs::{Ran, repair_first};
 pub use runs::run_jobs;
+pub use stops::unsettled_as;
 pub use streams::run_streams;

@@ -1,12 +1,12 @@
 //! A repair: a shard's first open job is merged from store to store and then ended.
 ghost use Rattle.std.specs.Prelude.{◌≡◌, ◌<◌, IfErr, IfOk, IfSome};
-ghost use Rattle.core_mail.specs.Inboxes.{AreInboxesOf};
+ghost use Rattle.core_steps.specs.core_mail.Inboxes.{AreInboxesOf};
 ghost use Rattle.core_model.specs.Consistent.{IsConsistent};
 ghost use Rattle.core_model.specs.Jobs.{IsOwedJob, far_shard, job_on};
 ghost use Rattle.core_model.specs.Pens.{pens_of};
 ghost use Rattle.core_model.specs.States.{AreStatesOf};
 ghost use Rattle.core_model.specs.Stores.{AreStores, store_count};
-ghost use Rattle.core_nodes.specs.Outside.{outside};
+ghost use Rattle.core_steps.specs.core_nodes.Outside.{outside};
 ghost use Rattle.core_steps.specs.Posting.{CanPost, PostsOn};
 ghost use Rattle.core_steps.specs.World.{world};
 ghost use Rattle.core_repairs.specs.Repairs.{FailsAs, FindsFirst, RepairsFirst, RunsJob, NotifiesOfRepair, refused_for};
@@ -18,8 +18,8 @@ ghost use Rattle.tao_keeper.specs.Given.{IsGivenJob};
 ghost use Rattle.tao_keeper.specs.KeeperState.{IsLater, KeepsTables};
 
 use core_model::{ShardJob, far_shard, masters_are_regions};
-use core_nodes::Fleet;
 use core_steps::Nodes;
+use core_steps::core_nodes::Fleet;
 use edge_repair::{RepairRefusal, passed_on};
 use replies::{NodeRefused, Refusal, StoreRefused, When};
 use shard_log::Note;

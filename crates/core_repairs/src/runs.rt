@@ -6,8 +6,8 @@ ghost use Rattle.core_steps.specs.World.{world};
 
 use crate::repairs::repair_first;
 use crate::stops::stop_of;
-use core_nodes::SettleStop;
 use core_steps::Nodes;
+use core_steps::core_nodes::SettleStop;
 use shard_tables::inverses_match;
 use tao_keeper::Keeper;
 use tao_link::Link;

@@ -1,14 +1,14 @@
 //! A settle's streams: each is moved to its end, region by region and in each of them shard by shard.
 ghost use Rattle.std.specs.Prelude.{◌≡◌, ◌<◌, ◌+◌, length};
 ghost use Rattle.core_model.specs.Stores.{IsConfiguredStore, region_store};
-ghost use Rattle.core_nodes.specs.Opening.{IsSlaveStore};
+ghost use Rattle.core_steps.specs.core_nodes.Opening.{IsSlaveStore};
 ghost use Rattle.core_repairs.specs.Streams.{RunsStreams, StreamsFrom, StreamsOnce, goes_further};
 ghost use Rattle.core_steps.specs.Posting.{CanPost, PostsOn};
 ghost use Rattle.core_steps.specs.World.{world};
 
 use crate::stops::stop_of;
 use core_model::master_of;
-use core_nodes::SettleStop;
+use core_steps::core_nodes::SettleStop;
 use core_steps::{AskedStream, Nodes};
 use replies::{StreamVerdict, Streamed};
 use tao_base::StoreName;

@@ -23,3 +23,4 @@ pub mod Refusals
 pub mod ShardLines
 pub mod StageCauses
 pub mod WholeCauses
+pub use Rattle.promise_kept.proofs as promise_kept_lemmas

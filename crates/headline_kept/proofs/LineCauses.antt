@@ -12,10 +12,10 @@ use Rattle.core_nodes.specs.declared.settling.SettleStop.{SettleStop}
 use Rattle.core_nodes.specs.declared.settling.SettleStop.TheVariants as stop
 use Rattle.core_plans.specs.HeldReads.{at_bound}
 use Rattle.core_plans.specs.declared.held.HeldPlan.TheVariants as of
-use Rattle.core_repairs.specs.Repairs.{FailsToMerge, FailureHasCause, IsNotRepaired, RepairsFirst}
-use Rattle.core_repairs.specs.Stops.{StopsAsRefused}
-use Rattle.core_repairs.specs.Streams.{StreamStopHasCause}
-use Rattle.core_repairs.specs.declared.repairs.Ran.{Ran}
+use Rattle.tao_core.specs.core_repairs.Repairs.{FailsToMerge, FailureHasCause, IsNotRepaired, RepairsFirst}
+use Rattle.tao_core.specs.core_repairs.Stops.{StopsAsRefused}
+use Rattle.tao_core.specs.core_repairs.Streams.{StreamStopHasCause}
+use Rattle.tao_core.specs.core_repairs.declared.repairs.Ran.{Ran}
 use Rattle.core_steps.specs.Replies.{refilled_as}
 use Rattle.core_steps.specs.ReadSteps.{AskFails}
 use Rattle.core_steps.specs.Streams.{FailsToTake, RefusesStream, StreamsOver}
@@ -54,7 +54,8 @@ use Rattle.tao_core.specs.Deliveries.{HasNoRefill, RefillGoes, home_tier}
 use Rattle.tao_core.specs.HeldCalls.{DoesAtOnce}
 use Rattle.tao_core.specs.Health.{AnswersHealth, AnswersTrust, AnswersUp}
 use Rattle.tao_core.specs.LinkReplies.{AnswersLink}
-use Rattle.tao_core.specs.Settling.{AnswersRepair, HasRunJobs, HasStreamed, IsUnsettled, repaired_as, unsettled_as}
+use Rattle.tao_core.specs.core_repairs.Stops.{unsettled_as}
+use Rattle.tao_core.specs.Settling.{AnswersRepair, HasRunJobs, HasStreamed, IsUnsettled, repaired_as}
 use Rattle.tao_core.specs.StoreReplies.{AnswersStore}
 use Rattle.tao_core.specs.Streams.{AnswersStream, asked_stream, streamed_as}
 use Rattle.tao_core.specs.Trims.{AnswersTrim}

@@ -11,11 +11,11 @@ use Rattle.core_model.specs.Stores.{region_store}
 use Rattle.core_model.specs.declared.named.Named.{Named}
 use Rattle.core_nodes.specs.Settling.{lies_behind}
 use Rattle.core_nodes.specs.Trimming.{behind_of, is_behind, names_behind}
-use Rattle.core_repairs.specs.Repairs.{IsNotRepaired, RepairsFirst, StopsRepair}
-use Rattle.core_repairs.specs.declared.repairs.Ran.{Ran}
+use Rattle.tao_core.specs.core_repairs.Repairs.{IsNotRepaired, RepairsFirst, StopsRepair}
+use Rattle.tao_core.specs.core_repairs.declared.repairs.Ran.{Ran}
 use Rattle.core_steps.specs.Streams.{ProcessesEntry, RefusesStream, StreamsOver, TakesAs, region_leader}
 use Rattle.core_steps.specs.World.{World}
-use Rattle.core_trims.specs.Trims.{ResetEach}
+use Rattle.tao_core.specs.core_trims.Trims.{ResetEach}
 use Rattle.edge_repair.specs.declared.refusal.RepairRefusal.{RepairRefusal}
 use Rattle.edge_repair.specs.declared.refusal.RepairRefusal.TheVariants.{KeeperFault, OutOfMemory}
 use Rattle.follower_cache.specs.Seen.{FollowerState}

@@ -9,8 +9,8 @@ use Rattle.std.specs.Option.{option_map}
 use Rattle.std.specs.Prelude.{Contains, Result, slice_get}
 use Rattle.core_model.specs.Jobs.{MergesOwed, ShardJob, far_shard}
 use Rattle.core_model.specs.Stores.{master_log, master_store, masters_of, stores_in}
-use Rattle.core_nodes.proofs.JobLemmas.{of_job}
-use Rattle.core_nodes.specs.Repairs.{owed_entry}
+use Rattle.core_steps.proofs.core_nodes_lemmas.JobLemmas.{of_job}
+use Rattle.core_steps.specs.core_nodes.Repairs.{owed_entry}
 use Rattle.core_plans.specs.Held.{learnt_here, learnt_of_write}
 use Rattle.core_plans.specs.declared.held.LearntEntries.{LearntEntries}
 use Rattle.core_steps.specs.OtherEnds.{JobWay, LeavesJob, MergesAlong, MergesBy, SentJob, TakesMerge, job_way, known_of, learnt_far}

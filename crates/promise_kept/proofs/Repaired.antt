@@ -5,8 +5,8 @@ use Rattle.std.proofs.lemmas.Bool.{cases_lt}
 use Rattle.std.proofs.lemmas.Option.{same_Some}
 use Rattle.core_model.specs.Jobs.{EndsOwed, IsFirstJobOf, MergesOwed, OwesShardJob, ShardJob, job_on}
 use Rattle.core_model.specs.Stores.{masters_of, stores_in}
-use Rattle.core_repairs.specs.Repairs.{FailsToEnd, FailsToMerge, FindsNoJob, IsNotRepaired, IsRepaired, OnlyAsks, RepairsFirst, StopsRepair}
-use Rattle.core_repairs.specs.declared.repairs.Ran.{Ran}
+use Rattle.tao_core.specs.core_repairs.Repairs.{FailsToEnd, FailsToMerge, FindsNoJob, IsNotRepaired, IsRepaired, OnlyAsks, RepairsFirst, StopsRepair}
+use Rattle.tao_core.specs.core_repairs.declared.repairs.Ran.{Ran}
 use Rattle.core_steps.specs.World.{World}
 use Rattle.edge_repair.specs.declared.refusal.RepairRefusal.{RepairRefusal}
 use Rattle.edge_repair.specs.declared.refusal.RepairRefusal.TheVariants.{KeeperFault, LinkFault, LogFull, OutOfMemory}

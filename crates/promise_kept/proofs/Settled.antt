@@ -3,9 +3,9 @@ use Rattle.std.proofs.Common.{◌≡◌, ℕ, zero, suc, ◌+◌, true, List, �
 use Rattle.std.proofs.lemmas.Option.{same_Some}
 use Rattle.std.specs.List.{range_with_len}
 use Rattle.core_model.specs.Stores.{master_log, stores_in}
-use Rattle.core_nodes.specs.Settling.{log_lengths}
-use Rattle.core_nodes.specs.declared.settling.SettleStop.{SettleStop}
-use Rattle.core_repairs.specs.Repairs.{SettlesLogs}
+use Rattle.core_steps.specs.core_nodes.Settling.{log_lengths}
+use Rattle.core_steps.specs.core_nodes.declared.settling.SettleStop.{SettleStop}
+use Rattle.tao_core.specs.core_repairs.Repairs.{SettlesLogs}
 use Rattle.master_tables.specs.Masters.{each_shard}
 use Rattle.plain_promise.specs.Promise.{IsSettledNow}
 use Rattle.promise_kept.proofs.Going.{grows_same, stores_are}

@@ -2,8 +2,8 @@
 use Rattle.std.proofs.Common.{◌≡◌, ℕ, ◌<◌, true, Some, None, Result, Ok, Err, length, refl, sym, ap, ◌∙◌, subst, inl, inr}
 use Rattle.std.specs.Prelude.{Option}
 use Rattle.core_model.specs.Stores.{master_of, master_store, region_store, stores_in}
-use Rattle.core_nodes.specs.Streams.{StreamsTo}
-use Rattle.core_repairs.specs.declared.repairs.Ran.{Ran}
+use Rattle.core_steps.specs.core_nodes.Streams.{StreamsTo}
+use Rattle.tao_core.specs.core_repairs.declared.repairs.Ran.{Ran}
 use Rattle.core_steps.specs.Streams.{RefusesStream, StreamsOver}
 use Rattle.core_steps.specs.World.{World}
 use Rattle.core_steps.specs.declared.streaming.AskedStream.{AskedStream}

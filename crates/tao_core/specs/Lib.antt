@@ -13,3 +13,5 @@ pub mod StoreReplies
 pub mod Streams
 pub mod Trims
 pub mod Settling
+pub use Rattle.core_repairs.specs as core_repairs
+pub use Rattle.core_trims.specs as core_trims

@@ -7,23 +7,18 @@ use Rattle.core_nodes.specs.Beginning.{AreLengths}
 use Rattle.core_nodes.specs.Dues.{LeavesFleet, MeetsDues, after_carries, dues_of_fleet, log_ends}
 use Rattle.core_nodes.specs.Settling.{AllCatchUp, AllProcessOn, IsLaterLink, OnlyReads, StopsCatchUp, StopsLengths, log_lengths}
 use Rattle.core_nodes.specs.declared.settling.SettleStop.{SettleStop}
-use Rattle.core_nodes.specs.declared.settling.SettleStop.TheVariants as stop
 use Rattle.core_repairs.specs.Repairs.{RepairsFirst, RunsAll, StopsRun}
+use Rattle.core_repairs.specs.Stops.{unsettled_as}
 use Rattle.core_repairs.specs.Streams.{StopsStreams, StreamsAll}
 use Rattle.core_repairs.specs.declared.repairs.Ran.{Ran}
 use Rattle.graph_model.specs.Told.{WhereTold}
 use Rattle.replies.specs.declared.nodes.NodeReply.TheVariants.{Repaired}
 use Rattle.replies.specs.declared.nodes.Repaired.{Repaired as RepairedJob}
-use Rattle.replies.specs.declared.refusals.NodeRefused.TheVariants.{NoServer}
 use Rattle.replies.specs.declared.refusals.Refusal.{Refusal}
-use Rattle.replies.specs.declared.refusals.Refusal.TheVariants.{Memory, Node as OfNode, Store}
-use Rattle.replies.specs.declared.refusals.StoreRefused.TheVariants as refused
 use Rattle.replies.specs.declared.reply.Reply.{Reply}
 use Rattle.replies.specs.declared.reply.Reply.TheVariants.{Node, Refused, Settled}
 use Rattle.tao_keeper.specs.KeeperState.{IsLater, KeepsTables}
 use Rattle.tao_schema.specs.Schema.{types_of}
-use Rattle.topology.specs.Choices.{master_region}
-use Rattle.topology.specs.States.{NodeStates}
 use Rattle.write_model.specs.Machine.{ArePaired}
 use Rattle.write_model.specs.Steps.{HaveNoJobs}
 use Rattle.tao_core.specs.Calls.{world_of}
@@ -139,12 +134,6 @@ pub record StopsAtNode (tells : Bool) (given : SettleStop) (old new : Moment) : 
 abbrev pub IsUnsettled : Bool → SettleStop → Moment → Moment → Type 0
 IsUnsettled tells given old new = StopsAtJobs tells given old new
     ⊎ (StopsAtStream tells given old new ⊎ (StopsAtLengths tells given old new ⊎ StopsAtNode tells given old new))
-
--- how that is replied: where no server was found, by the master's region of the shard at which it stopped
-abbrev pub unsettled_as : NodeStates → SettleStop → Reply
-unsettled_as states (stop.Unsettled shard why) = Refused (Store (refused.Unsettled shard why))
-unsettled_as states (stop.NoServer shard) = Refused (OfNode (NoServer (master_region states shard)))
-unsettled_as states stop.OutOfMemory = Refused (Memory 0)
 
 -- what the reply to a settle says
 abbrev pub AnswersSettle : Bool → Moment → Reply → Moment → Type 0

@@ -7,21 +7,19 @@ ghost use Rattle.core_nodes.specs.Beginning.{AreLengths};
 ghost use Rattle.core_nodes.specs.Settling.{StopsLengths, log_lengths};
 ghost use Rattle.graph_model.specs.Told.{WhereTold};
 ghost use Rattle.tao_core.specs.Core.{IsConsistentCore, IsCoreOf, LeavesCore, StaysUsable, moment};
-ghost use Rattle.tao_core.specs.Settling.{AnswersRepair, AnswersSettle, IsUnsettled, SettlesCore, repaired_as, repaired_of, unsettled_as};
+ghost use Rattle.tao_core.specs.Settling.{AnswersRepair, AnswersSettle, IsUnsettled, SettlesCore, repaired_as, repaired_of};
 ghost use Rattle.tao_keeper.specs.KeeperState.{IsLater, KeepsTables};
 
-use crate::refusals::no_server;
 use crate::serving::Core;
 use core_nodes::{Ends, Fleet, SettleStop, shard_lengths};
-use core_repairs::{Ran, repair_first, run_jobs, run_streams};
-use replies::{Lengths, NodeReply, Refusal, Repaired, Reply, StoreRefused};
+use core_repairs::{Ran, repair_first, run_jobs, run_streams, unsettled_as};
+use replies::{Lengths, NodeReply, Refusal, Repaired, Reply};
 use shard_tables::inverses_match;
 use std::alloc::Global;
-use store_replies::out_of_memory;
 use tao_base::OutOfMemory;
 use tao_keeper::Keeper;
 use tao_link::Link;
-use topology::{Config, Topology};
+use topology::Config;
 
 /// What a repair came to: the job that was run, if one was open.
 fn repaired_of(found: &Option<Ran>) -> Repaired
@@ -52,19 +50,6 @@ fn repaired_as(outcome: Result<Option<Ran>, Refusal>) -> Reply
             Reply::Node(NodeReply::Repaired(repaired))
         }
         Err(refusal) => Reply::Refused(refusal),
-    }
-}
-
-/// How it is replied that a settle came to no end.
-fn unsettled_as(topology: &Topology, stop: SettleStop) -> Reply
-    ensures { result ≡ unsettled_as topology.now stop }
-{
-    match stop {
-        SettleStop::Unsettled { shard, why } => {
-            Reply::Refused(Refusal::Store(StoreRefused::Unsettled { shard, why }))
-        }
-        SettleStop::NoServer { shard } => no_server(topology.master(shard)),
-        SettleStop::OutOfMemory => out_of_memory(),
     }
 }
 

@@ -1,7 +1,7 @@
 use Rattle.std.proofs.Common.{◌≡◌, None, Some, IfOk, refl, ap, sym, subst, ◌∙◌}
 use Rattle.std.specs.Bool.{OnTrue}
 use Rattle.std.specs.Prelude.{slice_index_or, slice_set}
-use Rattle.leader_tier.specs.TakenWrites.{TakesWritten, taken_entry}
+use Rattle.core_model.specs.leader_tier.TakenWrites.{TakesWritten, taken_entry}
 use Rattle.served_shards.specs.Served.{log_at}
 use Rattle.shard_log.specs.View.{as_note}
 use Rattle.shard_tables.specs.Jobs.{asked_merge}

@@ -3,8 +3,8 @@ use Rattle.std.proofs.lemmas.Result.{err_from_is_err_and}
 use Rattle.counts.proofs.Rises.{Rose-earlier}
 use Rattle.core_model.specs.Consistent.{GoesOn}
 use Rattle.core_model.specs.Jobs.{job_on}
-use Rattle.core_nodes.specs.Outside.{outside}
-use Rattle.core_nodes.proofs.GrowingLemmas.{stores_in_turn}
+use Rattle.core_steps.specs.core_nodes.Outside.{outside}
+use Rattle.core_steps.proofs.core_nodes_lemmas.GrowingLemmas.{stores_in_turn}
 use Rattle.core_steps.proofs.MergeLemmas.{end_grows}
 use Rattle.core_repairs.proofs.RepairLemmas.{merges_on, posts_merged, refuses_end, refuses_merge}
 use Rattle.core_repairs.proofs.repairs.merge_and_end.Goals as goal

@@ -1,8 +1,8 @@
 use Rattle.std.proofs.Common.{sym, subst, ◌∙◌}
-use Rattle.core_mail.specs.Inboxes.{Sends, entry_message}
+use Rattle.core_steps.specs.core_mail.Inboxes.{Sends, entry_message}
 use Rattle.core_model.specs.Messages.{notified_besides}
 use Rattle.core_model.specs.Pens.{IsSeen, pens_of}
-use Rattle.core_nodes.proofs.CommitLemmas.{note_seen}
+use Rattle.core_steps.proofs.core_nodes_lemmas.CommitLemmas.{note_seen}
 use Rattle.core_steps.specs.declared.nodes.Nodes.{Nodes}
 use Rattle.core_steps.proofs.NotifyLemmas.{sends_named}
 use Rattle.core_repairs.proofs.RepairLemmas.{notified_repair}

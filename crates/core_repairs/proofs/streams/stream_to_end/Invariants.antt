@@ -1,5 +1,5 @@
 use Rattle.std.proofs.Common.{◌≡◌, ◌≤◌, ◌-◌, ◌^◌, Ok}
-use Rattle.core_nodes.specs.Streams.{next_position}
+use Rattle.core_steps.specs.core_nodes.Streams.{next_position}
 use Rattle.core_steps.specs.Posting.{PostsOn}
 use Rattle.core_steps.specs.World.{world}
 use Rattle.core_repairs.specs.Streams.{StreamsFrom}

@@ -6,11 +6,11 @@ use Rattle.cache_items.specs.Node.{Node}
 use Rattle.core_model.proofs.Legal.{reads_are_legal}
 use Rattle.core_model.specs.Laws.{RightNodesStay}
 use Rattle.core_model.specs.Reads.{IsRightAnswer, LeaderAnswers, Wanted, asked_store, store_calls}
-use Rattle.leader_tier.proofs.LegalReads.{role_log}
-use Rattle.leader_tier.specs.LeaderReads.{GivesAnswer, IsLegalAt, asked_read, at_floor}
+use Rattle.core_model.proofs.leader_tier_lemmas.LegalReads.{role_log}
+use Rattle.core_model.specs.leader_tier.LeaderReads.{GivesAnswer, IsLegalAt, asked_read, at_floor}
 use Rattle.log_names.specs.Names.{IsOfLog, LogNames}
 use Rattle.node_name.specs.declared.NodeName.{NodeName}
-use Rattle.node_stages.specs.Stages.{LeaderDoes}
+use Rattle.shared_stores.specs.node_stages.Stages.{LeaderDoes}
 use Rattle.shard_log.proofs.GrowthLemmas.{grows-self}
 use Rattle.shard_tables.specs.ReadOuts.{read_note}
 use Rattle.shard_tables.specs.StoreView.{Store}

@@ -19,7 +19,7 @@ use Rattle.follower_cache.specs.Seen.{FollowerState}
 use Rattle.graph_model.specs.Told.{WhereTold}
 use Rattle.log_names.specs.Names.{IsOfLog, LogNames}
 use Rattle.node_name.specs.declared.NodeName.{NodeName}
-use Rattle.node_stages.specs.Stages.{FollowerDoes, LooksTrue}
+use Rattle.shared_stores.specs.node_stages.Stages.{FollowerDoes, LooksTrue}
 use Rattle.sealed_item.specs.Decided.{IsExactAnswer, content_answer, content_decides}
 use Rattle.sealed_item.specs.Fills.{SealedItem}
 use Rattle.served_shards.specs.Served.{ServedShard, served_at, view_at}

@@ -1,2 +1,3 @@
 pub mod Merges
 pub mod Nodes
+pub use Rattle.shared_stores.specs as shared_stores

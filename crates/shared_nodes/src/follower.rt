@@ -10,8 +10,8 @@ ghost use Rattle.core_model.specs.Reads.{AsksAtOnce, EndsAsk, IsRightFill, Keeps
 ghost use Rattle.core_model.specs.Serving.{IsFollowerFor};
 ghost use Rattle.core_model.specs.Writes.{AppliesTo};
 ghost use Rattle.log_names.specs.Names.{IsOfLog};
-ghost use Rattle.node_stages.specs.Caches.{DeliversAs, follower_node, follower_refills};
-ghost use Rattle.node_stages.specs.Stages.{FollowerDoes, LooksTrue};
+ghost use Rattle.shared_stores.specs.node_stages.Caches.{DeliversAs, follower_node, follower_refills};
+ghost use Rattle.shared_stores.specs.node_stages.Stages.{FollowerDoes, LooksTrue};
 ghost use Rattle.sealed_item.specs.Decided.{content_decides};
 ghost use Rattle.served_shards.specs.Served.{log_at, served_at, view_at};
 ghost use Rattle.shard_log.specs.GrowthLaws.{IsLegalIn};
@@ -21,17 +21,17 @@ ghost use Rattle.tao_base.specs.Queries.{query_key, query_shard};
 ghost use Rattle.tao_schema.specs.Schema.{types_of};
 
 use ask_table::AskNo;
-use core_model::Wanted;
 use core_model::laws::named_nodes_stay;
+use core_model::{Named, Wanted};
 use follower_cache::{Follower, Kept, Look};
 use maint_msg::Maint;
 use node_name::NodeName;
-use node_stages::{
-    FirstLook, apply_of, deliver_to, end_open_ask, keep_fill, look_first, open_true,
-};
 use sealed_item::Fill;
 use shard_log::Note;
 use shared_stores::Sharing;
+use shared_stores::node_stages::{
+    FirstLook, apply_of, deliver_to, end_open_ask, keep_fill, look_first, open_true,
+};
 use std::marker::{Model, PhantomData};
 use tao_base::{Answer, Entry, Key, OutOfMemory, Query};
 use tao_schema::Schema;
@@ -150,6 +150,18 @@ impl<J: Sharing> SharedFollower<J> {
             name,
             follower,
             of: PhantomData,
+        }
+    }
+
+    /// The follower with its name, no longer shared. Takes no memory.
+    pub fn into_node(self) -> Named<Follower>
+        ensures same { result ≡ self }
+        ensures shared { IsSharedNode J.making J.log result.name result.node.node }
+    {
+        let SharedFollower { name, follower, .. } = self;
+        Named {
+            name,
+            node: follower,
         }
     }
 

@@ -9,12 +9,12 @@ ghost use Rattle.core_model.specs.Reads.{IsRightAnswer};
 ghost use Rattle.core_model.specs.Serving.{IsLeaderFor};
 ghost use Rattle.graph_model.specs.Soundness.{is_client};
 ghost use Rattle.graph_model.specs.Told.{WhereTold};
-ghost use Rattle.leader_tier.specs.LeaderReads.{GivesAnswer, asked_read};
-ghost use Rattle.leader_tier.specs.TakenWrites.{TakesWritten, taken_entry};
+ghost use Rattle.core_model.specs.leader_tier.LeaderReads.{GivesAnswer, asked_read};
+ghost use Rattle.core_model.specs.leader_tier.TakenWrites.{TakesWritten, taken_entry};
 ghost use Rattle.log_names.specs.Names.{IsOfLog};
-ghost use Rattle.node_stages.specs.Caches.{DeliversAs, leader_node, leader_refills};
-ghost use Rattle.node_stages.specs.Relays.{RelaysTo};
-ghost use Rattle.node_stages.specs.Stages.{LeaderDoes};
+ghost use Rattle.shared_stores.specs.node_stages.Caches.{DeliversAs, leader_node, leader_refills};
+ghost use Rattle.shared_stores.specs.node_stages.Relays.{RelaysTo};
+ghost use Rattle.shared_stores.specs.node_stages.Stages.{LeaderDoes};
 ghost use Rattle.shard_log.specs.View.{Begins, Grows, as_note, most_entries};
 ghost use Rattle.shard_tables.specs.Refusals.{IsOfReads};
 ghost use Rattle.shard_tables.specs.Slaves.{HasMet};
@@ -32,13 +32,13 @@ ghost use Rattle.tao_keeper.specs.KeeperState.{CallsKeeper, KeepsTables};
 ghost use Rattle.tao_schema.specs.Schema.{types_of};
 
 use core_model::laws::named_nodes_stay;
-use core_model::{Around, AuthoredWrite, Wanted};
-use leader_tier::{Leader, leaders_are_true};
+use core_model::leader_tier::{Leader, leaders_are_true};
+use core_model::{Around, AuthoredWrite, Named, Wanted};
 use maint_msg::Maint;
 use node_name::NodeName;
-use node_stages::{deliver_to, relay_of};
 use shard_log::Note;
 use shard_tables::{LeaderAnswer, StoreRefusal, Wrote};
+use shared_stores::node_stages::{deliver_to, relay_of};
 use shared_stores::{
     CountedNote, OwedJob, SharedStore, Sharing, Spares, ask_at, commit_at, merge_at,
     see_each_other, see_gained,
@@ -153,6 +153,15 @@ impl<J: Sharing> SharedLeader<J> {
             leader,
             of: PhantomData,
         }
+    }
+
+    /// The leader with its name, no longer shared. Takes no memory.
+    pub fn into_node(self) -> Named<Leader>
+        ensures same { result ≡ self }
+        ensures shared { IsSharedNode J.making J.log result.name result.node }
+    {
+        let SharedLeader { name, leader, .. } = self;
+        Named { name, node: leader }
     }
 
     /// Its name.

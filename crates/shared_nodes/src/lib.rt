@@ -18,3 +18,4 @@ mod leader;
 
 pub use follower::{SharedFollower, SharedKept, SharedLook};
 pub use leader::{SharedLeader, SharedMerge};
+pub use shared_stores;

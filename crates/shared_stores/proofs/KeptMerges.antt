@@ -2,7 +2,7 @@
 use Rattle.std.proofs.Common.{◌≡◌, ◌≢◌, ℕ, ◌<◌, Bool, true, false, List, length, Option, Some, None, Result, Ok, Err, IfOk, refl, ap, sym, subst, ◌∙◌, arith}
 use Rattle.std.proofs.lemmas.List.Elements.{All-contains}
 use Rattle.std.specs.Prelude.{All, if◌then◌else◌}
-use Rattle.core_model.proofs.OwedJobs.{first_record}
+use Rattle.node_stages.proofs.core_model_lemmas.OwedJobs.{first_record}
 use Rattle.graph_model.specs.Log.{entry_at}
 use Rattle.graph_model.specs.Records.{HasStamp}
 use Rattle.graph_model.specs.Soundness.{EdgeUpdate}

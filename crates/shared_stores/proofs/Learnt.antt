@@ -2,7 +2,7 @@
 use Rattle.std.proofs.Common.{◌≡◌, ◌≢◌, ℕ, ◌≤◌, Bool, true, List, length, inl, inr, refl, sym, subst, ◌∙◌}
 use Rattle.std.proofs.lemmas.Bool.{cases_eq}
 use Rattle.std.specs.Prelude.{IsSomeAnd, Some, slice_get, slice_set}
-use Rattle.core_model.proofs.Places.{set_get}
+use Rattle.node_stages.proofs.core_model_lemmas.Places.{set_get}
 use Rattle.graph_model.specs.Told.{WhereTold}
 use Rattle.locked_model.specs.Locked.{IsSeenOf, LearnsWhole, SeeEachOther}
 use Rattle.locked_model.specs.LockedLaws.{LockedLearnsKeep}

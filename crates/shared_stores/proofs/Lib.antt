@@ -4,5 +4,6 @@ mod KeptCommits
 mod KeptMerges
 mod Learnt
 mod OwedWrites
+pub mod PastAnswers
 mod Seen
 mod Streaming

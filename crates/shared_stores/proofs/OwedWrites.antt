@@ -6,8 +6,8 @@ use Rattle.std.proofs.Props.{props}
 use Rattle.std.proofs.lemmas.Option.{same_Some}
 use Rattle.std.specs.Option.{option_map}
 use Rattle.std.specs.Prelude.{Contains, if◌then◌else◌, unwrap_or}
-use Rattle.core_model.proofs.OwedJobs.{first_record}
-use Rattle.core_model.specs.Jobs.{far_shard}
+use Rattle.node_stages.proofs.core_model_lemmas.OwedJobs.{first_record}
+use Rattle.node_stages.specs.core_model.Jobs.{far_shard}
 use Rattle.graph_model.proofs.EntryLemmas.{entry_at-last}
 use Rattle.graph_model.specs.Log.{entry_at}
 use Rattle.graph_model.specs.Soundness.{EdgeUpdate, IsSoundOf}

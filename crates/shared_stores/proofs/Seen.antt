@@ -5,7 +5,7 @@ use Rattle.std.proofs.lemmas.List.{length-append, take-append-drop, take_all, wi
 use Rattle.std.specs.Option.{option_map_or}
 use Rattle.std.specs.Prelude.{◌==◌, Bool, IsSomeAnd, None, Option, Some, Vec, slice_get, slice_set}
 use Rattle.std.specs.Vec.{with_items}
-use Rattle.core_model.proofs.Places.{get_set, set_get}
+use Rattle.node_stages.proofs.core_model_lemmas.Places.{get_set, set_get}
 use Rattle.log_names.specs.Names.{LogNames}
 use Rattle.shard_log.specs.View.{Begins, Grows, View}
 use Rattle.shard_tables.specs.Slaves.{HasMet, met_entries}

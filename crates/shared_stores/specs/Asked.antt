@@ -1,6 +1,6 @@
 -- What contracts see of what is lent to a store under its lock.
 use Rattle.std.specs.Prelude.{ℕ, List}
-use Rattle.core_model.specs.Asked.{AuthoredWrite}
+use Rattle.node_stages.specs.core_model.Asked.{AuthoredWrite}
 use Rattle.shard_tables.specs.Written.{AskedWrite}
 use Rattle.tao_base.specs.declared.entry.Entry.{Entry}
 use Rattle.tao_schema.specs.Schema.{types_of}

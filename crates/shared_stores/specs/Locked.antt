@@ -1,7 +1,7 @@
 -- A store under its lock, and what is known of it whenever that lock is free.
 use Rattle.std.specs.Prelude.{ℕ, ◌≡◌, ◌≤◌, ◌==◌, if◌then◌else◌, Bool, List, [], Some, length, slice_get}
 use Rattle.std.specs.Option.{option_map_or}
-use Rattle.core_model.specs.Stores.{IsStoreAt, store_place}
+use Rattle.node_stages.specs.core_model.Stores.{IsStoreAt, store_place}
 use Rattle.graph_model.specs.Soundness.{IsSoundOf}
 use Rattle.graph_model.specs.Told.{WhereTold}
 use Rattle.locked_model.specs.Locked.{IsKept, Knowledge}

@@ -1,6 +1,6 @@
 -- A job between two shards, as it is known without the locks of their stores: by notes of their logs.
 use Rattle.std.specs.Prelude.{ℕ, ◌≡◌, ◌≢◌, All, Bool}
-use Rattle.core_model.specs.Jobs.{far_shard}
+use Rattle.node_stages.specs.core_model.Jobs.{far_shard}
 use Rattle.graph_model.specs.Told.{WhereTold}
 use Rattle.log_names.specs.Names.{IsOfLog, LogNames}
 use Rattle.shard_log.specs.View.{View}

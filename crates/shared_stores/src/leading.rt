@@ -1,12 +1,12 @@
 //! The stages at a leader and at the store of its lock's value, while that lock is held too.
 ghost use Rattle.std.specs.Prelude.{◌≡◌, ◌≢◌, IfErr, IfOk, IfSome, IsTrue, OnErr, Some, true};
-ghost use Rattle.core_model.specs.Asked.{lent_call, settings};
-ghost use Rattle.core_model.specs.Jobs.{far_shard};
+ghost use Rattle.node_stages.specs.core_model.Asked.{lent_call, settings};
+ghost use Rattle.node_stages.specs.core_model.Jobs.{far_shard};
 ghost use Rattle.graph_model.specs.Log.{entry_at};
 ghost use Rattle.graph_model.specs.Soundness.{is_client};
 ghost use Rattle.graph_model.specs.Told.{WhereTold};
-ghost use Rattle.leader_tier.specs.LeaderReads.{GivesAnswer, IsLegalAt, asked_read};
-ghost use Rattle.leader_tier.specs.TakenWrites.{TakesWritten, taken_entry};
+ghost use Rattle.node_stages.specs.leader_tier.LeaderReads.{GivesAnswer, IsLegalAt, asked_read};
+ghost use Rattle.node_stages.specs.leader_tier.TakenWrites.{TakesWritten, taken_entry};
 ghost use Rattle.log_names.specs.Names.{IsOfLog};
 ghost use Rattle.node_stages.specs.Stages.{LeaderDoes};
 ghost use Rattle.served_shards.specs.Served.{log_at};
@@ -26,9 +26,9 @@ ghost use Rattle.tao_schema.specs.Schema.{types_of};
 use crate::owed::OwedJob;
 use crate::sharing::Sharing;
 use crate::store::SharedStore;
-use core_model::{Around, AuthoredWrite, ShardJob, Wanted};
-use leader_tier::{Leader, leaders_are_true};
 use locked_model::{merges_keep_locked, writes_keep_locked};
+use node_stages::core_model::{Around, AuthoredWrite, ShardJob, Wanted};
+use node_stages::leader_tier::{Leader, leaders_are_true};
 use node_stages::{ask_leader, commit_of, merge_of};
 use shard_log::Note;
 use shard_tables::{LeaderAnswer, StoreRefusal, Wrote, inverses_match};

@@ -1,8 +1,8 @@
 //! The value of a store's lock.
 ghost use Rattle.std.proofs.Props.{props};
 ghost use Rattle.std.specs.Prelude.{ℕ, ◌≡◌, IfErr, IfOk, OnErr, OnOk};
-ghost use Rattle.core_model.specs.Asked.{settings};
-ghost use Rattle.core_model.specs.Reads.{IsRightAnswer, given_of, wanted};
+ghost use Rattle.node_stages.specs.core_model.Asked.{settings};
+ghost use Rattle.node_stages.specs.core_model.Reads.{IsRightAnswer, given_of, wanted};
 ghost use Rattle.log_names.specs.Names.{IsOfLog};
 ghost use Rattle.session_pass.specs.Passes.{ReachesIn};
 ghost use Rattle.shard_log.specs.View.{Grows};
@@ -15,10 +15,11 @@ ghost use Rattle.tao_base.specs.Queries.{query_key, query_shard};
 ghost use Rattle.tao_keeper.specs.KeeperState.{CallsKeeper, KeepsTables};
 ghost use Rattle.tao_schema.specs.Schema.{types_of};
 ghost use Rattle.shared_stores.specs.Locked.{IsSharedStore, locked};
+ghost use Rattle.shared_stores.specs.PastBound.{IsUndecidedGiven};
 
 use crate::counted::CountedNote;
 use crate::sharing::Sharing;
-use core_model::Around;
+use node_stages::core_model::Around;
 use shard_log::Note;
 use shard_tables::{ReadOut, StoreNode, StoreRefusal};
 use std::marker::PhantomData;
@@ -98,8 +99,8 @@ impl<K: Keeper, J: Sharing> SharedStore<K, J> {
         self.store.note()
     }
 
-    /// The stage `master`: the store answers from all that it has, at whatever floor the caller's note had reached. The note then sees all of
-    /// that. No table changes.
+    /// The stage `master`: the store answers from all that it has, at whatever floor the caller's note had reached; where the answer is one past the
+    /// bound, no front of the list within it decides the query. The note then sees all of that. No table changes.
     ///
     /// `KeeperFault` comes only where the keeper's count of faults rose, and `OutOfMemory` where there was no memory. Costs what a read of the store
     /// does.
@@ -115,6 +116,7 @@ impl<K: Keeper, J: Sharing> SharedStore<K, J> {
         requires log { IsOfLog J.log self.old.store.name.shard note.old }
         ensures given { IfOk result (λ out. (floor : ℕ) → ReachesIn note.old (query_key query.now) floor
             → IsRightAnswer (types_of J.making.settings.schema) (IsOfLog J.log) (wanted query.now floor) (given_of out)) }
+        ensures past { IfOk result (λ out. IsUndecidedGiven (types_of J.making.settings.schema) query.now (given_of out)) }
         ensures whole { IfOk result (λ out. (read_note out).entries ≡ note.new.entries) }
         ensures grows { Grows note.old note.new }
         ensures store { self.new.store ≡ self.old.store }

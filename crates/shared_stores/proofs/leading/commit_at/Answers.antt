@@ -1,6 +1,6 @@
 use Rattle.std.proofs.Common.{Err, ap, sym, subst, ◌∙◌}
 use Rattle.std.proofs.lemmas.Result.{err_from_is_err_and}
-use Rattle.core_model.specs.Asked.{settings}
+use Rattle.node_stages.specs.core_model.Asked.{settings}
 use Rattle.graph_model.specs.Soundness.{IsSoundOf}
 use Rattle.graph_model.specs.Told.{WhereTold}
 use Rattle.shard_tables.specs.StoreView.{Store}

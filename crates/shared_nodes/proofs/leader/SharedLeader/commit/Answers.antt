@@ -1,6 +1,6 @@
 use Rattle.std.proofs.Common.{subst, true, ◌∙◌}
 use Rattle.core_model.specs.Serving.{IsLeaderFor}
-use Rattle.leader_tier.specs.TakenWrites.{taken_entry}
+use Rattle.core_model.specs.leader_tier.TakenWrites.{taken_entry}
 use Rattle.shard_log.specs.View.{as_note}
 use Rattle.shared_nodes.proofs.LeaderTurns.{leader_log}
 use Rattle.shared_nodes.proofs.leader.SharedLeader.commit.Goals as goal

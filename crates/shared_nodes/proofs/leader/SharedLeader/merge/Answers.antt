@@ -2,7 +2,7 @@ use Rattle.std.proofs.Common.{◌≡◌, Err, Some, ap, subst, sym, true, ◌∙
 use Rattle.std.proofs.lemmas.Result.{err_from_is_err_and}
 use Rattle.core_model.specs.Serving.{IsLeaderFor}
 use Rattle.graph_model.specs.Log.{entry_at}
-use Rattle.leader_tier.specs.TakenWrites.{taken_entry}
+use Rattle.core_model.specs.leader_tier.TakenWrites.{taken_entry}
 use Rattle.log_names.specs.Names.{IsOfLog}
 use Rattle.shard_log.specs.View.{as_note}
 use Rattle.shard_tables.specs.StoreView.{Store}

@@ -2,7 +2,7 @@
 use Rattle.std.proofs.Common.{◌≡◌, ℕ, ◌≤◌, Bool, true, false, ◌||◌, List, Option, Some, None, IfOk, Result, Ok, Err, take, drop, length}
 use Rattle.std.proofs.Common.{refl, ap, sym, subst, ◌∙◌, arith}
 use Rattle.std.proofs.lemmas.List.{take-append-drop}
-use Rattle.std.specs.Prelude.{◌-◌, if◌then◌else◌}
+use Rattle.std.specs.Prelude.{◌-◌, if◌then◌else◌, IfErr}
 use Rattle.cache_items.specs.declared.look.Kept.{Kept as KeptWhy}
 use Rattle.cache_items.specs.declared.look.Kept.TheVariants as was
 use Rattle.cache_items.specs.declared.look.Look.{Look}
@@ -25,12 +25,13 @@ use Rattle.read_plan.specs.declared.standing.Given.TheVariants.{Fill, HandedOut,
 use Rattle.read_plan.specs.declared.standing.Standing.{Standing}
 use Rattle.read_plan.specs.declared.standing.Standing.TheVariants.{Looking, Asking, Mastering, Keeping, Ended}
 use Rattle.replies.specs.Kinds.{query_word}
-use Rattle.replies.specs.declared.calls.ReadReply.{ReadReply}
 use Rattle.replies.specs.declared.nodes.KeptOrNot.{KeptOrNot}
 use Rattle.replies.specs.declared.nodes.KeptOrNot.TheVariants as stays
 use Rattle.replies.specs.declared.nodes.NotKeptWhy.{NotKeptWhy}
 use Rattle.replies.specs.declared.nodes.NotKeptWhy.TheVariants as why
+use Rattle.replies.specs.declared.refusals.Refusal.TheVariants.{Memory}
 use Rattle.replies.specs.declared.reply.Reply.{Reply}
+use Rattle.replies.specs.declared.reply.Reply.TheVariants as reply
 use Rattle.sealed_item.specs.Fills.{SealedItem}
 use Rattle.session_pass.specs.Passes.{ReachesIn}
 use Rattle.shard_log.proofs.Beginnings.{begins-length}
@@ -41,9 +42,11 @@ use Rattle.shard_tables.specs.declared.leader_answer.LeaderAnswer.{LeaderAnswer}
 use Rattle.shard_tables.specs.declared.leader_answer.LeaderAnswer.TheVariants.{Filled, Past, Behind}
 use Rattle.shard_tables.specs.declared.read_out.ReadOut.{ReadOut}
 use Rattle.shard_tables.specs.declared.read_out.ReadOut.TheVariants as store
-use Rattle.shared_nodes.specs.Nodes.{IsKeptAsSeen, IsLegalHit}
-use Rattle.shared_nodes.specs.declared.follower.SharedLook.{SharedLook}
+use Rattle.locked_nodes.specs.shared_nodes.Nodes.{IsKeptAsSeen, IsLegalHit}
+use Rattle.locked_nodes.specs.shared_nodes.declared.follower.SharedLook.{SharedLook}
+use Rattle.shared_stores.proofs.PastAnswers.{undecided_grows}
 use Rattle.shared_stores.specs.Making.{Making}
+use Rattle.shared_stores.specs.PastBound.{IsUndecidedGiven, IsUndecidedIn}
 use Rattle.tao_base.specs.EdgeTypes.{EdgeTypes}
 use Rattle.tao_base.specs.Queries.{query_key, query_shard}
 use Rattle.tao_base.specs.declared.entry.Entry.{Entry}
@@ -52,10 +55,15 @@ use Rattle.tao_base.specs.declared.query.Answer.{Answer}
 use Rattle.tao_base.specs.declared.query.Query.{Query}
 use Rattle.tao_schema.specs.Schema.{types_of}
 use Rattle.words.specs.declared.ReadWord.{ReadWord}
-use Rattle.locked_nodes.specs.Begun.{Begun, CountsHops}
-use Rattle.locked_nodes.specs.Replies.{AnswersNothing}
-use Rattle.cluster_reads.specs.Reads.{EndsRead, EndsSeen, IsHandedOut, IsKeptSo, IsKeptWhy, IsPastAt, IsReadOf, IsUnderWay}
-use Rattle.cluster_reads.specs.Reads.{ReadAsked, StandsSeen, StepsRead, TellsRead, asked_by, least_version, wanted_by}
+use Rattle.locked_nodes.specs.Begun.{Begun, CountsHops, HasFailed}
+use Rattle.counts.proofs.Rises.{Rose-earlier}
+use Rattle.counts.specs.Count.{Rose}
+use Rattle.locked_nodes.proofs.Refusing.{replies_wider}
+use Rattle.locked_nodes.specs.Cluster.{MayFail, OnCluster}
+use Rattle.locked_nodes.specs.Replies.{RepliesRefused}
+use Rattle.tao_link.specs.Shown.{LinkShown}
+use Rattle.cluster_reads.specs.Reads.{EndsFor, EndsRead, EndsSeen, IsHandedOut, IsKeptSo, IsKeptWhy, IsPastAt, IsReadOf, IsUnderWay}
+use Rattle.cluster_reads.specs.Reads.{ReadAsked, StandsAfter, StandsSeen, StepsRead, answered_in, asked_by, least_version, wanted_by}
 use Rattle.locked_nodes.specs.declared.holds.Mastered.{Mastered}
 
 -- ---- what a read must reach
@@ -101,16 +109,16 @@ legal_reached types view query floor answer at legal told =
     let same = l.version_is in
     omega arith
 
-why_grows : (u v : View) (asked : ReadAsked) (reason : NotKeptWhy) (have need : ℕ) → Grows u v → IsKeptWhy u asked reason have need
-    → IsKeptWhy v asked reason have need
-why_grows u v asked why.Mark have need grows is = (
+why_grows : (types : EdgeTypes) (u v : View) (asked : ReadAsked) (at : ℕ) (reason : NotKeptWhy) (have need : ℕ) → Grows u v
+    → IsKeptWhy (answered_in types u asked at) reason have need → IsKeptWhy (answered_in types v asked at) reason have need
+why_grows types u v asked at why.Mark have need grows is = (
   is.0,
   λ told.
       let le : need ≤ length u.entries = is.1 (grown_told u v grows told) in
       let more : length u.entries ≤ length v.entries = begins-length u.entries v.entries grows.begins in
       omega arith,
 )
-why_grows u v asked why.Floor have need grows is = (
+why_grows types u v asked at why.Floor have need grows is = (
   is.0,
   λ told.
       let le : need ≤ version u.entries (query_key asked.query) = is.1 (grown_told u v grows told) in
@@ -118,25 +126,26 @@ why_grows u v asked why.Floor have need grows is = (
       versions_stay.version_rises u v (query_key asked.query) grows in
       omega arith,
 )
-why_grows u v asked why.Lost have need grows is = is
-why_grows u v asked why.Bound have need grows is = is
-why_grows u v asked why.Asks have need grows is = is
-why_grows u v asked why.Memory have need grows is = tt
+why_grows types u v asked at why.Lost have need grows is = is
+why_grows types u v asked at why.Bound have need grows is = (is.0, undecided_grows types u v asked.query at need grows is.1)
+why_grows types u v asked at why.Asks have need grows is = is
+why_grows types u v asked at why.Memory have need grows is = tt
 
 -- why an answer isn't kept stays so
-pub kept_grows : (u v : View) (asked : ReadAsked) (kept : KeptOrNot) → Grows u v → IsKeptSo u asked kept → IsKeptSo v asked kept
-kept_grows u v asked stays.Kept grows is = tt
-kept_grows u v asked (stays.Not not_kept) grows is = why_grows u v asked not_kept.why not_kept.have not_kept.need grows is
+pub kept_grows : (types : EdgeTypes) (u v : View) (asked : ReadAsked) (at : ℕ) (kept : KeptOrNot) → Grows u v → IsKeptSo (answered_in types u asked at) kept
+    → IsKeptSo (answered_in types v asked at) kept
+kept_grows types u v asked at stays.Kept grows is = tt
+kept_grows types u v asked at (stays.Not not_kept) grows is = why_grows types u v asked at not_kept.why not_kept.have not_kept.need grows is
 
 -- why the follower didn't keep the fill, as the reply says it
-pub kept_seen : (note seen : View) (asked : ReadAsked) (kept : KeptWhy) → Grows note seen → IsKeptAsSeen note (query_key asked.query) kept
-    → IsKeptSo seen asked (kept_or_not kept)
-kept_seen note seen asked was.Yes grows is = tt
-kept_seen note seen asked was.Asks grows is = (refl, refl)
-kept_seen note seen asked was.Lost grows is = absurd is
-kept_seen note seen asked (was.Mark have need) grows is = why_grows note seen asked why.Mark have need grows is
-kept_seen note seen asked (was.Floor have need) grows is = why_grows note seen asked why.Floor have need grows is
-kept_seen note seen asked was.Memory grows is = tt
+pub kept_seen : (types : EdgeTypes) (note seen : View) (asked : ReadAsked) (at : ℕ) (kept : KeptWhy) → Grows note seen
+    → IsKeptAsSeen note (query_key asked.query) kept → IsKeptSo (answered_in types seen asked at) (kept_or_not kept)
+kept_seen types note seen asked at was.Yes grows is = tt
+kept_seen types note seen asked at was.Asks grows is = (refl, refl)
+kept_seen types note seen asked at was.Lost grows is = absurd is
+kept_seen types note seen asked at (was.Mark have need) grows is = why_grows types note seen asked at why.Mark have need grows is
+kept_seen types note seen asked at (was.Floor have need) grows is = why_grows types note seen asked at why.Floor have need grows is
+kept_seen types note seen asked at was.Memory grows is = tt
 
 -- what is answered from a fill is legal in what was seen, once the fill's note was
 pub kept_legal : (types : EdgeTypes) (seen of_fill : View) (fill lent : SealedItem) (p : Reading) (query : Query) (floor : ℕ) (answer told : Answer)
@@ -151,11 +160,88 @@ kept_legal types seen of_fill fill lent p query floor answer told own at same no
     (subst (λ (q : Query). IsLegalIn types fill.note q floor answer fill.version) own lent_is)) in
     legal-grows fill.note seen types p.query p.floor told fill.version (subst (λ (v : View). Grows v seen) note grows) asked
 
-pub kept_reason : (note seen : View) (p : Reading) (query : Query) (kept told : KeptWhy) → query ≡ p.query → told ≡ kept → Grows note seen
-    → IsKeptAsSeen note (query_key query) kept → IsKeptSo seen (asked_by p) (kept_or_not told)
-kept_reason note seen p query kept told own is grows reason =
-    kept_seen note seen (asked_by p) told grows
+pub kept_reason : (types : EdgeTypes) (note seen : View) (p : Reading) (query : Query) (kept told : KeptWhy) (at : ℕ) → query ≡ p.query → told ≡ kept
+    → Grows note seen → IsKeptAsSeen note (query_key query) kept → IsKeptSo (answered_in types seen (asked_by p) at) (kept_or_not told)
+kept_reason types note seen p query kept told at own is grows reason =
+    kept_seen types note seen (asked_by p) at told grows
     (subst (IsKeptAsSeen note (query_key p.query)) (sym is) (subst (λ (q : Query). IsKeptAsSeen note (query_key q) kept) own reason))
+
+-- ---- causes
+
+ends_wider : (failed fails now also : Type 0) → (failed → now) → (fails → also) → (at : Standing) → EndsFor failed fails at → EndsFor now also at
+ends_wider failed fails now also later wider (Ended (Refused said)) is = replies_wider failed fails now also later wider said is
+ends_wider failed fails now also later wider (Ended (Answered answer at keeps)) is = tt
+ends_wider failed fails now also later wider Looking is = tt
+ends_wider failed fails now also later wider Asking is = tt
+ends_wider failed fails now also later wider Mastering is = tt
+ends_wider failed fails now also later wider (Keeping given) is = tt
+
+-- a stage without a carry, or the call of a keeper
+pub ends_anyhow : (failed fails : Type 0) (at : Standing) → EndsFor ⊥ ⊥ at → EndsFor failed fails at
+ends_anyhow failed fails = ends_wider ⊥ ⊥ failed fails (λ none. absurd none) (λ none. absurd none)
+
+-- a stage that was refused for a cause, or not refused
+pub ends_after : {T : Type 0} (failed fails : Type 0) (r : Result T Reply) (at : Standing) → StandsAfter r at → IfErr r (RepliesRefused failed fails)
+    → EndsFor failed fails at
+ends_after failed fails (Ok came) at stands is = ends_anyhow failed fails at stands
+ends_after failed fails (Err said) at stands is = subst (EndsFor failed fails) (sym stands) is
+
+look_going : (critical : Bool) (look : Look) → EndsFor ⊥ ⊥ (after_look critical look)
+look_going true look = tt
+look_going false (Hit answer version) = tt
+look_going false Miss = tt
+
+ask_going : (given : LeaderAnswer) → EndsFor ⊥ ⊥ (after_ask given)
+ask_going (Filled fill) = tt
+ask_going (Past answer version total note) = tt
+ask_going (Behind version) = tt
+
+out_going : (out : ReadOut) → EndsFor ⊥ ⊥ (after_master out)
+out_going (store.Filled fill) = tt
+out_going (store.Past answer version total note) = tt
+
+past_going : (bound : ℕ) (at : Standing) → IsPastAt at → EndsFor ⊥ ⊥ (after_keep bound (without_note at) None)
+past_going bound (Keeping (PastGiven answer version total held)) past = tt
+past_going bound (Keeping (Fill given)) past = absurd past
+past_going bound (Keeping (HandedOut version)) past = absurd past
+past_going bound Looking past = absurd past
+past_going bound Asking past = absurd past
+past_going bound Mastering past = absurd past
+past_going bound (Ended end) past = absurd past
+
+-- where a read stands that took this
+pub look_ends : (p q : Reading) (look : Look) → q ≡ taken (came.Look (Ok look)) 0 false p → EndsFor ⊥ ⊥ q.at
+look_ends p q look same = subst (λ (x : Reading). EndsFor ⊥ ⊥ x.at) (sym same) (look_going p.critical look)
+
+pub ask_ends : (p q : Reading) (given : LeaderAnswer) (more : ℕ) (called : Bool) → q ≡ taken (came.Ask (Ok given)) more called p → EndsFor ⊥ ⊥ q.at
+ask_ends p q given more called same = subst (λ (x : Reading). EndsFor ⊥ ⊥ x.at) (sym same) (ask_going given)
+
+pub out_ends : (p q : Reading) (out : ReadOut) (more : ℕ) (called : Bool) → q ≡ taken (came.Master (Ok out)) more called p → EndsFor ⊥ ⊥ q.at
+out_ends p q out more called same = subst (λ (x : Reading). EndsFor ⊥ ⊥ x.at) (sym same) (out_going out)
+
+pub past_ends : (p q : Reading) → IsPastAt p.at → q ≡ taken (came.Keep (Ok None)) 0 false (note_handed p) → EndsFor ⊥ ⊥ q.at
+past_ends p q past same = subst (λ (x : Reading). EndsFor ⊥ ⊥ x.at) (sym same) (past_going p.bound p.at past)
+
+-- a stage that was refused
+pub look_refused : (p q : Reading) (said : Reply) → q ≡ taken (came.Look (Err said)) 0 false p → said ≡ reply.Refused (Memory 0) → EndsFor ⊥ ⊥ q.at
+look_refused p q said same is =
+    subst (λ (x : Reading). EndsFor ⊥ ⊥ x.at) (sym same) (subst (RepliesRefused ⊥ ⊥) (sym is) refl)
+
+pub keep_refused : (p q : Reading) (said : Reply) → q ≡ taken (came.Keep (Err said)) 0 false p → RepliesRefused ⊥ ⊥ said → EndsFor ⊥ ⊥ q.at
+keep_refused p q said same is = subst (λ (x : Reading). EndsFor ⊥ ⊥ x.at) (sym same) is
+
+-- a stage that was answered, or refused with its reply
+pub stands_asked : (p q : Reading) (said : Reply) (more : ℕ) (called : Bool) → q ≡ taken (came.Ask (Err said)) more called p → q.at ≡ Ended (Refused said)
+stands_asked p q said more called same = ap (λ (x : Reading). x.at) same
+
+pub stands_read : (p q : Reading) (said : Reply) (more : ℕ) (called : Bool) → q ≡ taken (came.Master (Err said)) more called p → q.at ≡ Ended (Refused said)
+stands_read p q said more called same = ap (λ (x : Reading). x.at) same
+
+pub kept_ends : (p q : Reading) (version : ℕ) (found : Answer × KeptWhy) → p.at ≡ Keeping (HandedOut version)
+    → q ≡ taken (came.Keep (Ok (Some found))) 0 false p → EndsFor ⊥ ⊥ q.at
+kept_ends p q version found at same =
+    subst (λ (x : Reading). EndsFor ⊥ ⊥ x.at) (sym same)
+    (subst (λ (a : Standing). EndsFor ⊥ ⊥ (after_keep p.bound a (Some found))) (sym at) tt)
 
 module _ (m : Making) (log : LogNames) (begun : Begun) where
   -- ---- a read at another standing
@@ -178,10 +264,9 @@ module _ (m : Making) (log : LogNames) (begun : Begun) where
 
   -- a stage that is refused
   pub refused_steps : (old seen : View) (p q : Reading) (more : ℕ) (called : Bool) (said : Reply) → IsReadOf m log begun old p → Grows old seen
-      → AnswersNothing said → q ≡ record p { at = Ended (Refused said); hops = hops_after p.hops more; store = called }
-      → StepsRead m log begun seen more p q
-  refused_steps old seen p q more called said is grows nothing same =
-      subst (StepsRead m log begun seen more p) (sym same) (steps_to old seen p p.ask (Ended (Refused said)) more called is grows nothing)
+      → q ≡ record p { at = Ended (Refused said); hops = hops_after p.hops more; store = called } → StepsRead m log begun seen more p q
+  refused_steps old seen p q more called said is grows same =
+      subst (StepsRead m log begun seen more p) (sym same) (steps_to old seen p p.ask (Ended (Refused said)) more called is grows tt)
 
   -- ---- look
 
@@ -223,20 +308,22 @@ module _ (m : Making) (log : LogNames) (begun : Begun) where
 
   ask_stands : (asked : ReadAsked) (seen : View) (given : LeaderAnswer)
       → IsRightAnswer (types_of m.settings.schema) (IsOfLog log) (wanted_by begun asked) given
+      → IsUndecidedGiven (types_of m.settings.schema) asked.query given
       → StandsSeen (types_of m.settings.schema) log begun asked seen (after_ask given)
-  ask_stands asked seen (Filled fill) is = is
-  ask_stands asked seen (Past answer version total note) is = is
-  ask_stands asked seen (Behind version) is = tt
+  ask_stands asked seen (Filled fill) is past = is
+  ask_stands asked seen (Past answer version total note) is past = (is.0, is.1, past)
+  ask_stands asked seen (Behind version) is past = tt
 
   pub ask_steps : (seen : View) (p q : Reading) (given : LeaderAnswer) (more : ℕ) (called : Bool) → IsReadOf m log begun seen p
       → stage_of p.at ≡ stage.Ask → IsRightAnswer (types_of m.settings.schema) (IsOfLog log) (wanted p.query p.floor) given
-      → q ≡ taken (came.Ask (Ok given)) more called p → StepsRead m log begun seen more p q
-  ask_steps seen p q given more called is ask right same =
+      → IsUndecidedGiven (types_of m.settings.schema) p.query given → q ≡ taken (came.Ask (Ok given)) more called p
+      → StepsRead m log begun seen more p q
+  ask_steps seen p q given more called is ask right past same =
       subst (StepsRead m log begun seen more p) (sym same)
       (steps_to seen seen p p.ask (after_ask given) more (p.store || called) is (grows-self seen)
       (ask_stands (asked_by p) seen given
       (subst (λ n. IsRightAnswer (types_of m.settings.schema) (IsOfLog log) (wanted p.query n) given)
-      (sym (plain_least begun (asked_by p) (asks_plain (asked_by p) seen p.at is.stands ask))) right)))
+      (sym (plain_least begun (asked_by p) (asks_plain (asked_by p) seen p.at is.stands ask))) right) past))
 
   -- ---- master
 
@@ -271,16 +358,18 @@ module _ (m : Making) (log : LogNames) (begun : Begun) where
 
   out_stands : (asked : ReadAsked) (seen : View) (out : ReadOut)
       → IsRightAnswer (types_of m.settings.schema) (IsOfLog log) (wanted_by begun asked) (given_of out)
+      → IsUndecidedGiven (types_of m.settings.schema) asked.query (given_of out)
       → StandsSeen (types_of m.settings.schema) log begun asked seen (after_master out)
-  out_stands asked seen (store.Filled fill) is = is
-  out_stands asked seen (store.Past answer version total note) is = is
+  out_stands asked seen (store.Filled fill) is past = is
+  out_stands asked seen (store.Past answer version total note) is past = (is.0, is.1, past)
 
   pub out_steps : (seen : View) (p q : Reading) (out : ReadOut) (more : ℕ) (called : Bool) → IsReadOf m log begun seen p
       → IsRightAnswer (types_of m.settings.schema) (IsOfLog log) (wanted_by begun (asked_by p)) (given_of out)
-      → q ≡ taken (came.Master (Ok out)) more called p → StepsRead m log begun seen more p q
-  out_steps seen p q out more called is right same =
+      → IsUndecidedGiven (types_of m.settings.schema) p.query (given_of out) → q ≡ taken (came.Master (Ok out)) more called p
+      → StepsRead m log begun seen more p q
+  out_steps seen p q out more called is right past same =
       subst (StepsRead m log begun seen more p) (sym same)
-      (steps_to seen seen p p.ask (after_master out) more (p.store || called) is (grows-self seen) (out_stands (asked_by p) seen out right))
+      (steps_to seen seen p p.ask (after_master out) more (p.store || called) is (grows-self seen) (out_stands (asked_by p) seen out right past))
 
   -- ---- keep, of a fill
 
@@ -362,7 +451,8 @@ module _ (m : Making) (log : LogNames) (begun : Begun) where
   }
 
   pub kept_steps : (seen : View) (p q : Reading) (version : ℕ) (found : Answer × KeptWhy) → IsHandedOut m log begun seen p version
-      → IsLegalIn (types_of m.settings.schema) seen p.query p.floor found.0 version → IsKeptSo seen (asked_by p) (kept_or_not found.1)
+      → IsLegalIn (types_of m.settings.schema) seen p.query p.floor found.0 version
+      → IsKeptSo (answered_in (types_of m.settings.schema) seen (asked_by p) version) (kept_or_not found.1)
       → q ≡ taken (came.Keep (Ok (Some found))) 0 false p → StepsRead m log begun seen 0 p q
   kept_steps seen p q version found is legal kept same =
       subst (StepsRead m log begun seen 0 p) (sym same)
@@ -373,10 +463,10 @@ module _ (m : Making) (log : LogNames) (begun : Begun) where
         kept = kept;
       })))
 
-  pub unkept_steps : (seen : View) (p q : Reading) (version : ℕ) (said : Reply) → IsHandedOut m log begun seen p version → AnswersNothing said
+  pub unkept_steps : (seen : View) (p q : Reading) (version : ℕ) (said : Reply) → IsHandedOut m log begun seen p version
       → q ≡ taken (came.Keep (Err said)) 0 false p → StepsRead m log begun seen 0 p q
-  unkept_steps seen p q version said is nothing same =
-      subst (StepsRead m log begun seen 0 p) (sym same) (handed_to seen p version (Ended (Refused said)) (p.store || false) is nothing)
+  unkept_steps seen p q version said is same =
+      subst (StepsRead m log begun seen 0 p) (sym same) (handed_to seen p version (Ended (Refused said)) (p.store || false) is tt)
 
   -- a step of the read whose fill was handed out is one of the read
   pub steps_handed : (seen : View) (p q r : Reading) → q ≡ fill_handed p → StepsRead m log begun seen 0 q r → StepsRead m log begun seen 0 p r
@@ -414,10 +504,12 @@ module _ (m : Making) (log : LogNames) (begun : Begun) where
       → StandsSeen (types_of m.settings.schema) log begun asked seen (after_keep asked.bound (without_note at) None)
   past_stands asked old seen (Keeping (PastGiven answer version total (Some own))) note stands past is grows =
       let one : own ≡ note = cc in
+      let undecided : IsUndecidedIn (types_of m.settings.schema) note asked.query version total =
+      subst (λ (v : View). IsUndecidedIn (types_of m.settings.schema) v asked.query version total) one stands.2 in
       record {
         legal = legal-grows note seen (types_of m.settings.schema) asked.query (least_version begun asked) answer version grows
             (subst (λ (v : View). IsLegalIn (types_of m.settings.schema) v asked.query (least_version begun asked) answer version) one stands.0);
-        kept = refl;
+        kept = (refl, undecided_grows (types_of m.settings.schema) note seen asked.query version total grows undecided);
       }
   past_stands asked old seen (Keeping (PastGiven answer version total None)) note stands past is grows = absurd stands
   past_stands asked old seen (Keeping (Fill given)) note stands past is grows = absurd past
@@ -445,61 +537,78 @@ module _ (m : Making) (log : LogNames) (begun : Begun) where
   past_of asked seen Mastering stands keep has = absurd (cc)
   past_of asked seen (Ended end) stands keep has = absurd (cc)
 
-  -- ---- all stages
-
   -- a stage without a carry
   pub steps_still : (seen : View) (carries : ℕ) (p q : Reading) → StepsRead m log begun seen 0 p q → StepsRead m log begun seen (carries - carries) p q
   steps_still seen carries p q steps =
       let none : carries - carries ≡ 0 = omega arith in
       subst (λ n. StepsRead m log begun seen n p q) (sym none) steps
 
-  pub under_way_first : (seen : View) (carries : ℕ) (p : Reading) → IsReadOf m log begun seen p → begun.carries ≡ carries → p.hops ≡ 0
-      → IsUnderWay m log begun (asked_by p) seen carries p
-  under_way_first seen carries p is since none = record {
+-- ---- all stages
+
+module _ {M : Type 0} (on : OnCluster M) (begun : Begun) where
+  pub under_way_first : (seen : View) (link : LinkShown) (p : Reading) → IsReadOf on.making on.log begun seen p → begun.carries ≡ link.carries
+      → begun.faults ≡ link.faults → p.hops ≡ 0 → EndsFor ⊥ ⊥ p.at → IsUnderWay on begun (asked_by p) seen link p
+  under_way_first seen link p is since faults none going = record {
     read = is;
     same = refl;
     hops = record { later = omega (arith, since); hops_are = omega (arith, since, none) };
+    later = omega (arith, faults);
+    refused = ends_anyhow (HasFailed begun link.faults) (MayFail on.state) p.at going;
   }
 
-  pub under_way_on : (asked : ReadAsked) (old new : View) (first now : ℕ) (p q : Reading) → IsUnderWay m log begun asked old first p → first ≤ now
-      → StepsRead m log begun new (now - first) p q → IsUnderWay m log begun asked new now q
-  under_way_on asked old new first now p q under le steps = record {
+  pub under_way_on : (asked : ReadAsked) (old new : View) (first now : LinkShown) (p q : Reading) → IsUnderWay on begun asked old first p
+      → first.carries ≤ now.carries → first.faults ≤ now.faults → StepsRead on.making on.log begun new (now.carries - first.carries) p q
+      → EndsFor (Rose first.faults now.faults) (MayFail on.state) q.at → IsUnderWay on begun asked new now q
+  under_way_on asked old new first now p q under le faults steps ends = record {
     read = steps.read;
     same = steps.same ∙ under.same;
     hops = (
-        let later : begun.carries ≤ first = under.hops.later in
-        let before : p.hops ≡ hops_after 0 (first - begun.carries) = under.hops.hops_are in
-        let after : q.hops ≡ hops_after p.hops (now - first) = steps.hops in
+        let later : begun.carries ≤ first.carries = under.hops.later in
+        let before : p.hops ≡ hops_after 0 (first.carries - begun.carries) = under.hops.hops_are in
+        let after : q.hops ≡ hops_after p.hops (now.carries - first.carries) = steps.hops in
         record { later = omega (arith, later, le); hops_are = omega (arith, later, le, before, after) });
+    later = omega (arith, under.later, faults);
+    refused = ends_wider (Rose first.faults now.faults) (MayFail on.state) (HasFailed begun now.faults) (MayFail on.state)
+        (λ rose. Rose-earlier begun.faults first.faults now.faults under.later rose) (λ fails. fails) q.at ends;
   }
 
-  told_end : (asked : ReadAsked) (seen : View) (word : ReadWord) (carries hops : ℕ) (called : Bool) (end : ReadEnd)
-      → EndsSeen (types_of m.settings.schema) begun asked seen end → CountsHops begun carries hops
-      → EndsRead (types_of m.settings.schema) begun asked seen carries (read_reply word hops called end)
-  told_end asked seen word carries hops called (Answered answer version kept) is count told same =
-      let made : ReadReply = record { word = word; answer = answer; version = version; hops = hops; store = called; kept = kept } in
-      let one : made ≡ told = cc in
-      subst (TellsRead (types_of m.settings.schema) begun asked seen carries) one (record { answer = is; hops = count })
-  told_end asked seen word carries hops called (Refused said) is count told same = absurd (is told same)
+  refused_end : (asked : ReadAsked) (seen : View) (link : LinkShown) (said : Reply) → RepliesRefused (HasFailed begun link.faults) (MayFail on.state) said
+      → EndsRead on begun asked seen link said
+  refused_end asked seen link (reply.Refused refusal) is = is
+  refused_end asked seen link (reply.Called called) is = absurd is
+  refused_end asked seen link reply.Configured is = absurd is
+  refused_end asked seen link (reply.BadConfiguration field) is = absurd is
+  refused_end asked seen link (reply.BadStores at position) is = absurd is
+  refused_end asked seen link (reply.Opened session) is = absurd is
+  refused_end asked seen link (reply.Plan plan) is = absurd is
+  refused_end asked seen link (reply.Node node) is = absurd is
+  refused_end asked seen link (reply.Settled logs) is = absurd is
+  refused_end asked seen link (reply.Audited answer position) is = absurd is
 
-  ends_at : (asked : ReadAsked) (seen : View) (carries : ℕ) (p : Reading) (at : Standing) (said : Reply) → EndsAt at p said
-      → StandsSeen (types_of m.settings.schema) log begun asked seen at → CountsHops begun carries p.hops
-      → EndsRead (types_of m.settings.schema) begun asked seen carries said
-  ends_at asked seen carries p (Ended end) said ends stands count =
-      subst (EndsRead (types_of m.settings.schema) begun asked seen carries) (sym ends)
-      (told_end asked seen (query_word p.query) carries p.hops p.store end stands count)
-  ends_at asked seen carries p Looking said ends stands count = absurd ends
-  ends_at asked seen carries p Asking said ends stands count = absurd ends
-  ends_at asked seen carries p Mastering said ends stands count = absurd ends
-  ends_at asked seen carries p (Keeping given) said ends stands count = absurd ends
+  told_end : (asked : ReadAsked) (seen : View) (link : LinkShown) (word : ReadWord) (hops : ℕ) (called : Bool) (end : ReadEnd)
+      → EndsSeen (types_of on.making.settings.schema) begun asked seen end
+      → EndsFor (HasFailed begun link.faults) (MayFail on.state) (Ended end) → CountsHops begun link.carries hops
+      → EndsRead on begun asked seen link (read_reply word hops called end)
+  told_end asked seen link word hops called (Answered answer version keeps) is ends count = record { answer = is; hops = count }
+  told_end asked seen link word hops called (Refused said) is ends count = refused_end asked seen link said ends
+
+  ends_at : (asked : ReadAsked) (seen : View) (link : LinkShown) (p : Reading) (at : Standing) (said : Reply) → EndsAt at p said
+      → StandsSeen (types_of on.making.settings.schema) on.log begun asked seen at → EndsFor (HasFailed begun link.faults) (MayFail on.state) at
+      → CountsHops begun link.carries p.hops → EndsRead on begun asked seen link said
+  ends_at asked seen link p (Ended end) said ends stands for count =
+      subst (EndsRead on begun asked seen link) (sym ends) (told_end asked seen link (query_word p.query) p.hops p.store end stands for count)
+  ends_at asked seen link p Looking said ends stands for count = absurd ends
+  ends_at asked seen link p Asking said ends stands for count = absurd ends
+  ends_at asked seen link p Mastering said ends stands for count = absurd ends
+  ends_at asked seen link p (Keeping given) said ends stands for count = absurd ends
 
   -- what a read ends with
-  pub ends_read : (asked : ReadAsked) (seen : View) (carries : ℕ) (p : Reading) (said : Reply) → IsUnderWay m log begun asked seen carries p
-      → EndsWith p said → EndsRead (types_of m.settings.schema) begun asked seen carries said
-  ends_read asked seen carries p said under ends =
-      subst (λ (a : ReadAsked). EndsRead (types_of m.settings.schema) begun a seen carries said) under.same
-      (ends_at (asked_by p) seen carries p p.at said ends under.read.stands under.hops)
+  pub ends_read : (asked : ReadAsked) (seen : View) (link : LinkShown) (p : Reading) (said : Reply) → IsUnderWay on begun asked seen link p
+      → EndsWith p said → EndsRead on begun asked seen link said
+  ends_read asked seen link p said under ends =
+      subst (λ (a : ReadAsked). EndsRead on begun a seen link said) under.same
+      (ends_at (asked_by p) seen link p p.at said ends under.read.stands under.refused under.hops)
 
-  pub ended_log : (asked : ReadAsked) (seen : View) (carries : ℕ) (p : Reading) → IsUnderWay m log begun asked seen carries p
-      → IsOfLog log (query_shard asked.query) seen
-  ended_log asked seen carries p under = subst (λ (a : ReadAsked). IsOfLog log (query_shard a.query) seen) under.same under.read.log_is
+  pub ended_log : (asked : ReadAsked) (seen : View) (link : LinkShown) (p : Reading) → IsUnderWay on begun asked seen link p
+      → IsOfLog on.log (query_shard asked.query) seen
+  ended_log asked seen link p under = subst (λ (a : ReadAsked). IsOfLog on.log (query_shard a.query) seen) under.same under.read.log_is

@@ -1,5 +1,6 @@
 -- A read that is under way on a cluster, and what its reply promises.
-use Rattle.std.specs.Prelude.{ℕ, ◌≡◌, ◌≤◌, ◌<◌, ⊤, Bool, false, if◌then◌else◌, IsSomeAnd, List, Option, Some, None, length, slice_get}
+use Rattle.std.specs.Prelude.{ℕ, ◌≡◌, ◌≤◌, ◌<◌, ⊤, Bool, false, if◌then◌else◌, IsSomeAnd, List, Option, Some, None, Result, Ok, Err}
+use Rattle.std.specs.Prelude.{length, slice_get}
 use Rattle.core_model.specs.Reads.{IsRightFill, Wanted, wanted}
 use Rattle.core_model.specs.Serving.{IsFollowerFor}
 use Rattle.graph_model.specs.Log.{version}
@@ -19,6 +20,7 @@ use Rattle.replies.specs.declared.nodes.KeptOrNot.{KeptOrNot}
 use Rattle.replies.specs.declared.nodes.KeptOrNot.TheVariants as stays
 use Rattle.replies.specs.declared.nodes.NotKeptWhy.{NotKeptWhy}
 use Rattle.replies.specs.declared.nodes.NotKeptWhy.TheVariants as why
+use Rattle.replies.specs.declared.refusals.Refusal.{Refusal}
 use Rattle.replies.specs.declared.reply.Reply.{Reply}
 use Rattle.replies.specs.declared.reply.Reply.TheVariants as reply
 use Rattle.session_pass.specs.Floors.{Learns, floor_at}
@@ -26,15 +28,18 @@ use Rattle.session_pass.specs.Passes.{HasReached, ReachesIn, SeenPass}
 use Rattle.shard_log.specs.GrowthLaws.{IsLegalIn}
 use Rattle.shard_log.specs.View.{Grows, View}
 use Rattle.shared_stores.specs.Making.{Making}
+use Rattle.shared_stores.specs.PastBound.{IsUndecidedIn}
 use Rattle.tao_base.specs.EdgeTypes.{EdgeTypes}
 use Rattle.tao_base.specs.Queries.{query_key, query_shard}
 use Rattle.tao_base.specs.declared.id.Key.{Key}
 use Rattle.tao_base.specs.declared.query.Answer.{Answer}
 use Rattle.tao_base.specs.declared.query.Query.{Query}
 use Rattle.tao_schema.specs.Schema.{key_bound, types_of}
-use Rattle.locked_nodes.specs.Begun.{Begun, CountsHops}
+use Rattle.tao_link.specs.Shown.{LinkShown}
+use Rattle.locked_nodes.specs.Begun.{Begun, CountsHops, HasFailed}
+use Rattle.locked_nodes.specs.Cluster.{MayFail, OnCluster}
 use Rattle.locked_nodes.specs.Passes.{IsLegalSeen}
-use Rattle.locked_nodes.specs.Replies.{AnswersNothing}
+use Rattle.locked_nodes.specs.Replies.{RefusesFor, RepliesRefused}
 
 -- ---- what is asked
 
@@ -68,57 +73,77 @@ wanted_by begun asked = wanted asked.query (least_version begun asked)
 
 -- ---- what is answered
 
--- why an answer isn't kept is so in what was seen of the key's shard: as many entries, or that version of the key. No ask is ever lost
-abbrev pub IsKeptWhy : View → ReadAsked → NotKeptWhy → ℕ → ℕ → Type 0
-IsKeptWhy seen asked why.Mark have need = (have < need) × WhereTold seen.log.told (need ≤ length seen.entries)
-IsKeptWhy seen asked why.Floor have need = (have < need) × WhereTold seen.log.told (need ≤ version seen.entries (query_key asked.query))
-IsKeptWhy seen asked why.Lost have need = ⊥
-IsKeptWhy seen asked why.Bound have need = have ≡ asked.bound
-IsKeptWhy seen asked why.Asks have need = (have ≡ 256) × (need ≡ 256)
-IsKeptWhy seen asked why.Memory have need = ⊤
+-- an answer to a read, at that version of its key, by what was seen of the key's shard
+pub record AnsweredIn : Type 0 where
+  pub types : EdgeTypes
+  pub seen : View
+  pub asked : ReadAsked
+  pub at : ℕ
+
+-- an answer at that version, in what was seen
+abbrev pub answered_in : EdgeTypes → View → ReadAsked → ℕ → AnsweredIn
+answered_in types seen asked at = record { types = types; seen = seen; asked = asked; at = at }
+
+-- why an answer isn't kept is so in what was seen: as many entries, that version of the key, or, at a beginning of the answer's version, a list of that
+-- length, none of whose fronts within its type's bound decides the query. No ask is ever lost
+abbrev pub IsKeptWhy : AnsweredIn → NotKeptWhy → ℕ → ℕ → Type 0
+IsKeptWhy a why.Mark have need = (have < need) × WhereTold a.seen.log.told (need ≤ length a.seen.entries)
+IsKeptWhy a why.Floor have need = (have < need) × WhereTold a.seen.log.told (need ≤ version a.seen.entries (query_key a.asked.query))
+IsKeptWhy a why.Lost have need = ⊥
+IsKeptWhy a why.Bound have need = (have ≡ a.asked.bound) × IsUndecidedIn a.types a.seen a.asked.query a.at need
+IsKeptWhy a why.Asks have need = (have ≡ 256) × (need ≡ 256)
+IsKeptWhy a why.Memory have need = ⊤
 
 -- the answer is kept, or isn't for a reason that was seen
-abbrev pub IsKeptSo : View → ReadAsked → KeptOrNot → Type 0
-IsKeptSo seen asked stays.Kept = ⊤
-IsKeptSo seen asked (stays.Not not_kept) = IsKeptWhy seen asked not_kept.why not_kept.have not_kept.need
+abbrev pub IsKeptSo : AnsweredIn → KeptOrNot → Type 0
+IsKeptSo a stays.Kept = ⊤
+IsKeptSo a (stays.Not not_kept) = IsKeptWhy a not_kept.why not_kept.have not_kept.need
 
 -- the answer is legal in what was seen of the shard's log, at the version that it must reach; where it isn't kept, the reason was seen
 pub record IsAnswerIn (types : EdgeTypes) (begun : Begun) (asked : ReadAsked) (seen : View) (answer : Answer) (at : ℕ) (keeps : KeptOrNot) : Type 0 where
   pub legal : IsLegalIn types seen asked.query (least_version begun asked) answer at
-  pub kept : IsKeptSo seen asked keeps
+  pub kept : IsKeptSo (answered_in types seen asked at) keeps
 
 -- what the reply to a read answers, and its hops
 pub record TellsRead (types : EdgeTypes) (begun : Begun) (asked : ReadAsked) (seen : View) (carries : ℕ) (told : ReadReply) : Type 0 where
   pub answer : IsAnswerIn types begun asked seen told.answer told.version told.kept
   pub hops : CountsHops begun carries told.hops
 
--- where the reply answers the read, that is right in what was seen of the shard's log
-abbrev pub EndsRead : EdgeTypes → Begun → ReadAsked → View → ℕ → Reply → Type 0
-EndsRead types begun asked seen carries said =
-    (told : ReadReply) → said ≡ reply.Called (called.Read told) → TellsRead types begun asked seen carries told
+-- why a read is refused: its link failed, keepers of the type may fail, or there was no memory; for no other cause
+abbrev pub RefusesRead : {M : Type 0} → OnCluster M → Begun → ℕ → Refusal → Type 0
+RefusesRead on begun faults refusal = RefusesFor (HasFailed begun faults) (MayFail on.state) refusal
+
+-- the reply answers the read, right in what was seen of the shard's log, or refuses it for its cause
+abbrev pub EndsRead : {M : Type 0} → OnCluster M → Begun → ReadAsked → View → LinkShown → Reply → Type 0
+EndsRead on begun asked seen link (reply.Called (called.Read told)) =
+    TellsRead (types_of on.making.settings.schema) begun asked seen link.carries told
+EndsRead on begun asked seen link (reply.Refused refusal) = RefusesRead on begun link.faults refusal
+EndsRead on begun asked seen link other = ⊥
 
 -- a reply that answers a read: the answer is legal in what the pass has then seen, at the version that it must reach; the session has learnt just that
 -- version; where the answer isn't kept, the pass has seen why; and the hops are the carries
 pub record AnswersRead (m : Making) (begun : Begun) (asked : ReadAsked) (old new : SeenPass) (carries : ℕ) (told : ReadReply) : Type 0 where
   pub legal : IsLegalSeen (types_of m.settings.schema) new.notes (wanted_by begun asked) told.answer told.version
   pub learns : Learns (query_key asked.query) told.version old.floors new.floors
-  pub kept : IsSomeAnd (slice_get new.notes (query_shard asked.query)) (λ seen. IsKeptSo seen asked told.kept)
+  pub kept : IsSomeAnd (slice_get new.notes (query_shard asked.query))
+      (λ seen. IsKeptSo (answered_in (types_of m.settings.schema) seen asked told.version) told.kept)
   pub hops : CountsHops begun carries told.hops
 
--- a reply answers the read, or else it teaches the session nothing
-pub record RepliesToRead (m : Making) (begun : Begun) (asked : ReadAsked) (old new : SeenPass) (carries : ℕ) (said : Reply) : Type 0 where
-  pub answers : (told : ReadReply) → said ≡ reply.Called (called.Read told) → AnswersRead m begun asked old new carries told
-  pub teaches_nothing : AnswersNothing said → new.floors ≡ old.floors
+-- the reply to a read, which answers it, or refuses it for its cause and teaches the session nothing
+abbrev pub RepliesToRead : {M : Type 0} → OnCluster M → Begun → ReadAsked → SeenPass → SeenPass → LinkShown → Reply → Type 0
+RepliesToRead on begun asked old new link (reply.Called (called.Read told)) = AnswersRead on.making begun asked old new link.carries told
+RepliesToRead on begun asked old new link (reply.Refused refusal) = RefusesRead on begun link.faults refusal × (new.floors ≡ old.floors)
+RepliesToRead on begun asked old new link other = ⊥
 
 -- the version that a reply to a read tells
 abbrev pub version_told : Reply → Option ℕ
 version_told (reply.Called (called.Read told)) = Some told.version
 version_told said = None
 
--- the session has learnt the version that the reply tells of the key, and where it answers no read nothing
-pub record LearnsReply (key : Key) (old new : List (Key × ℕ)) (said : Reply) : Type 0 where
-  pub learns : (told : ReadReply) → said ≡ reply.Called (called.Read told) → Learns key told.version old new
-  pub nothing : AnswersNothing said → new ≡ old
+-- the session has learnt the version that is told of the key, and where none is nothing
+abbrev pub LearnsTold : Key → List (Key × ℕ) → List (Key × ℕ) → Option ℕ → Type 0
+LearnsTold key old new None = new ≡ old
+LearnsTold key old new (Some version) = Learns key version old new
 
 -- ---- a read under way
 
@@ -130,18 +155,19 @@ pub record IsBegunRead (m : Making) (pass : SeenPass) (query : Query) (critical 
   pub serves : IsFollowerFor m.settings (query_shard query) p.follower
   pub reached : HasReached pass.notes (query_key query) (floor_at pass.floors (query_key query))
 
--- what was given is there, and right for the read
+-- what was given is there, and right for the read; past the bound, that it is so was seen
 abbrev pub IsHeldFor : EdgeTypes → LogNames → Wanted → Given → Type 0
 IsHeldFor types log read (Fill fill) = IsRightFill types (IsOfLog log) read fill
 IsHeldFor types log read (Past answer version total (Some note)) =
     IsLegalIn types note read.query read.floor answer version × IsOfLog log (query_shard read.query) note
+    × IsUndecidedIn types note read.query version total
 IsHeldFor types log read (Past answer version total None) = ⊥
 IsHeldFor types log read (HandedOut version) = ⊥
 
--- a read ends with an answer that was seen, or with a reply that answers nothing
+-- a read ends with an answer that was seen, or with none
 abbrev pub EndsSeen : EdgeTypes → Begun → ReadAsked → View → ReadEnd → Type 0
 EndsSeen types begun asked seen (Answered answer at keeps) = IsAnswerIn types begun asked seen answer at keeps
-EndsSeen types begun asked seen (Refused said) = AnswersNothing said
+EndsSeen types begun asked seen (Refused said) = ⊤
 
 -- where a read stands: a critical one asks no leader, what was given is right, and so is its end
 abbrev pub StandsSeen : EdgeTypes → LogNames → Begun → ReadAsked → View → Standing → Type 0
@@ -150,6 +176,20 @@ StandsSeen types log begun asked seen (Ended end) = EndsSeen types begun asked s
 StandsSeen types log begun asked seen Asking = asked.critical ≡ false
 StandsSeen types log begun asked seen Looking = ⊤
 StandsSeen types log begun asked seen Mastering = ⊤
+
+-- where a read has ended without an answer, its reply refuses it, as the link has failed, keepers may fail, or there was no memory
+abbrev pub EndsFor : Type 0 → Type 0 → Standing → Type 0
+EndsFor failed fails (Ended (Refused said)) = RepliesRefused failed fails said
+EndsFor failed fails (Ended (Answered answer at keeps)) = ⊤
+EndsFor failed fails Looking = ⊤
+EndsFor failed fails Asking = ⊤
+EndsFor failed fails Mastering = ⊤
+EndsFor failed fails (Keeping given) = ⊤
+
+-- where a read stands after a step came to this: refused with its reply, or not refused
+abbrev pub StandsAfter : {T : Type 0} → Result T Reply → Standing → Type 0
+StandsAfter (Ok came) at = EndsFor ⊥ ⊥ at
+StandsAfter (Err said) at = at ≡ Ended (Refused said)
 
 -- a read on its way, with a note of its shard's log that has seen what its pass had, and all that its stages have: its region is configured, its follower
 -- serves the shard, its floor was reached when it began, and it stands as it may
@@ -187,8 +227,10 @@ pub record StepsRead (m : Making) (log : LogNames) (begun : Begun) (seen : View)
   pub same : asked_by q ≡ asked_by p
   pub hops : q.hops ≡ hops_after p.hops more
 
--- a read on its way that was asked this, with the carries of all its stages
-pub record IsUnderWay (m : Making) (log : LogNames) (begun : Begun) (asked : ReadAsked) (seen : View) (carries : ℕ) (p : Reading) : Type 0 where
-  pub read : IsReadOf m log begun seen p
+-- a read on its way that was asked this, with the carries of all its stages, and where it was refused with the cause
+pub record IsUnderWay {M : Type 0} (on : OnCluster M) (begun : Begun) (asked : ReadAsked) (seen : View) (link : LinkShown) (p : Reading) : Type 0 where
+  pub read : IsReadOf on.making on.log begun seen p
   pub same : asked_by p ≡ asked
-  pub hops : CountsHops begun carries p.hops
+  pub hops : CountsHops begun link.carries p.hops
+  pub later : begun.faults ≤ link.faults
+  pub refused : EndsFor (HasFailed begun link.faults) (MayFail on.state) p.at

@@ -1,11 +1,8 @@
 //! What a session learns of the reply to a read.
-ghost use Rattle.std.specs.Prelude.{◌≡◌, ◌≤◌, ◌<◌};
-ghost use Rattle.cluster_reads.specs.Reads.{LearnsReply, version_told};
+ghost use Rattle.std.specs.Prelude.{◌≡◌, ◌≤◌, ◌<◌, IfSome};
+ghost use Rattle.cluster_reads.specs.Reads.{LearnsTold, version_told};
 ghost use Rattle.locked_nodes.specs.Passes.{IsPassOf, PassGoesOn, SeesNote};
 ghost use Rattle.log_names.specs.Names.{IsOfLog};
-ghost use Rattle.replies.specs.declared.calls.CallReply.TheVariants as called;
-ghost use Rattle.replies.specs.declared.calls.ReadReply.{ReadReply as ToldRead};
-ghost use Rattle.replies.specs.declared.reply.Reply.TheVariants as reply_is;
 ghost use Rattle.session_pass.specs.Passes.{ReachesIn};
 ghost use Rattle.tao_base.specs.Keys.{key_shard};
 
@@ -17,7 +14,7 @@ use shared_stores::Sharing;
 use tao_base::Key;
 
 /// The version that a reply to a read tells.
-fn version_told(reply: &Reply) -> Option<u64>
+pub(crate) fn version_told(reply: &Reply) -> Option<u64>
     ensures { result ≡ version_told reply.now }
 {
     match reply {
@@ -26,19 +23,19 @@ fn version_told(reply: &Reply) -> Option<u64>
     }
 }
 
-/// The session learns what the reply to a read tells of its key, which the key has reached in the note. The pass sees what the note has seen.
-pub(crate) fn learn_reply<J: Sharing>(pass: &mut Pass, key: &Key, seen: Note, reply: &Reply)
+/// The session learns the version that it is told of a key, which the key has reached in the note. The pass sees what the note has seen.
+pub(crate) fn learn_told<J: Sharing>(pass: &mut Pass, key: &Key, seen: Note, told: Option<u64>)
     requires pass { IsPassOf J.making J.log pass.old }
     requires here { key_shard key.now < J.making.settings.shards }
     requires room { 1 ≤ pass.old.spare }
     requires log { IsOfLog J.log (key_shard key.now) seen }
-    requires reached { (told : ToldRead) → reply.now ≡ reply_is.Called (called.Read told) → ReachesIn seen key.now told.version }
+    requires reached { IfSome told (ReachesIn seen key.now) }
     ensures pass { IsPassOf J.making J.log pass.new }
     ensures on { PassGoesOn pass.old pass.new }
     ensures sees { SeesNote (key_shard key.now) seen pass.new.notes }
-    ensures learns { LearnsReply key.now pass.old.floors pass.new.floors reply.now }
+    ensures learns { LearnsTold key.now pass.old.floors pass.new.floors told }
 {
-    match version_told(reply) {
+    match told {
         Some(version) => learn::<J>(pass, key, version, seen),
         None => see::<J>(pass, key.shard(), seen),
     }

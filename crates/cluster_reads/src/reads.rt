@@ -1,12 +1,14 @@
 //! The reads of sessions.
-ghost use Rattle.std.specs.Prelude.{ℕ, ◌≡◌, ◌≢◌, ◌≤◌, ◌<◌, ◌-◌, IfErr, IfOk, IfSome, Some, length, slice_get, true, false};
-ghost use Rattle.cluster_reads.specs.Reads.{EndsRead, IsBegunRead, IsKeptSo, IsReadOf, RepliesToRead, StepsRead};
-ghost use Rattle.cluster_reads.specs.Reads.{asked_by, asked_with, wanted_by};
+ghost use Rattle.std.specs.Prelude.{ℕ, ◌≡◌, ◌≢◌, ◌≤◌, ◌<◌, ◌-◌, IfErr, IfOk, Some, length, slice_get, true, false};
+ghost use Rattle.cluster_reads.specs.Reads.{EndsRead, IsBegunRead, IsKeptSo, IsReadOf, EndsFor, RepliesToRead, StepsRead};
+ghost use Rattle.cluster_reads.specs.Reads.{answered_in, asked_by, asked_with, wanted_by};
+ghost use Rattle.counts.specs.Count.{Rose};
 ghost use Rattle.core_model.specs.Reads.{IsRightAnswer, IsRightFill, given_of, wanted};
 ghost use Rattle.core_model.specs.Serving.{IsFollowerFor, IsLeaderFor};
 ghost use Rattle.locked_nodes.specs.Begun.{Begun, begun};
 ghost use Rattle.locked_nodes.specs.Passes.{IsPassOf, PassGoesOn};
-ghost use Rattle.locked_nodes.specs.Replies.{AnswersNothing};
+ghost use Rattle.locked_nodes.specs.Cluster.{MayFail, on_cluster};
+ghost use Rattle.locked_nodes.specs.Replies.{RepliesRefused};
 ghost use Rattle.log_names.specs.Names.{IsOfLog};
 ghost use Rattle.read_plan.specs.Keeping.{kept_or_not};
 ghost use Rattle.read_plan.specs.Standings.{has_fill, stage_of};
@@ -14,25 +16,26 @@ ghost use Rattle.read_plan.specs.declared.stages.ReadStage.TheVariants as stage;
 ghost use Rattle.session_pass.specs.Passes.{ReachesIn};
 ghost use Rattle.shard_log.specs.GrowthLaws.{IsLegalIn};
 ghost use Rattle.shard_log.specs.View.{Grows, View};
-ghost use Rattle.shared_nodes.specs.Nodes.{IsLegalHit};
+ghost use Rattle.locked_nodes.specs.shared_nodes.Nodes.{IsLegalHit};
+ghost use Rattle.shared_stores.specs.PastBound.{IsUndecidedGiven};
 ghost use Rattle.tao_base.specs.Queries.{query_key, query_shard};
 ghost use Rattle.tao_schema.specs.Schema.{types_of};
 
-use crate::learning::learn_reply;
+use crate::learning::{learn_told, version_told};
 use crate::taking::{
     OpenRead, see_kept, take_ask, take_asked, take_kept, take_look, take_out, take_past,
 };
 use cache_items::Kept;
 use core_model::Wanted;
-use core_nodes::{master_store, region_store};
-use locked_nodes::{Asked, LockedNodes, Mastered, carry_over, no_server, prepare};
+use locked_nodes::core_nodes::{master_store, region_store};
+use locked_nodes::shared_nodes::SharedLook;
+use locked_nodes::{Asked, LockedNodes, Mastered, carry_over, prepare};
 use node_name::NodeName;
 use read_plan::{ReadPlan, ReadStage};
 use replies::Reply;
 use sealed_item::Fill;
 use session_pass::Pass;
 use shard_log::Note;
-use shared_nodes::SharedLook;
 use shared_stores::Sharing;
 use std::sync::Wait;
 use store_replies::out_of_memory;
@@ -40,23 +43,23 @@ use tao_base::{Answer, OutOfMemory, Query};
 use tao_keeper::Keeper;
 use tao_link::Link;
 
-/// A read of a session that is begun, at the floor of its pass. None where no follower can be chosen. Takes no memory.
+/// A read of a session that is begun, at the floor of its pass. Takes no memory.
 pub fn begin_read<K: Keeper, J: Sharing>(
     nodes: &LockedNodes<'_, K, J>,
     pass: &Pass,
     query: Query,
     critical: bool,
-) -> Option<ReadPlan>
+) -> ReadPlan
     requires pass { IsPassOf J.making J.log pass.now }
     requires here { query_shard query < J.making.settings.shards }
-    ensures { IfSome result (IsBegunRead J.making pass.now query critical) }
+    ensures { IsBegunRead J.making pass.now query critical result }
 {
-    let follower = nodes.follower_for(pass.region(), pass.tier(), query.shard())?;
+    let follower = nodes.follower_for(pass.region(), pass.tier(), query.shard());
     let floor = pass.floor(query.key());
     let bound = nodes.schema().bound_of(&query.key());
     let mut plan = ReadPlan::begin(query, pass.region(), pass.tier(), floor, critical, follower);
     plan.set_bound(bound);
-    Some(plan)
+    plan
 }
 
 /// The stage `look` of a read.
@@ -68,7 +71,8 @@ fn look_stage<K: Keeper, J: Sharing, R: Wait>(
     ghost begun: { Begun }
     requires read { IsReadOf J.making J.log begun read.old.seen read.old.plan }
     requires stage { stage_of read.old.plan.at ≡ stage.Look }
-    ensures { StepsRead J.making J.log begun read.new.seen 0 read.old.plan read.new.plan }
+    ensures steps { StepsRead J.making J.log begun read.new.seen 0 read.old.plan read.new.plan }
+    ensures refused { EndsFor ⊥ ⊥ read.new.plan.at }
 {
     if read.plan.is_critical() {
         look_past(nodes, rt, read);
@@ -87,7 +91,8 @@ fn look_past<K: Keeper, J: Sharing, R: Wait>(
     requires read { IsReadOf J.making J.log begun read.old.seen read.old.plan }
     requires stage { stage_of read.old.plan.at ≡ stage.Look }
     requires critical { read.old.plan.critical ≡ true }
-    ensures { StepsRead J.making J.log begun read.new.seen 0 read.old.plan read.new.plan }
+    ensures steps { StepsRead J.making J.log begun read.new.seen 0 read.old.plan read.new.plan }
+    ensures refused { EndsFor ⊥ ⊥ read.new.plan.at }
 {
     let ask = nodes.ask_at_once(rt, read.plan.follower(), read.plan.query());
     take_ask::<J>(read, ask);
@@ -103,7 +108,8 @@ fn look_first<K: Keeper, J: Sharing, R: Wait>(
     requires read { IsReadOf J.making J.log begun read.old.seen read.old.plan }
     requires stage { stage_of read.old.plan.at ≡ stage.Look }
     requires plain { read.old.plan.critical ≡ false }
-    ensures { StepsRead J.making J.log begun read.new.seen 0 read.old.plan read.new.plan }
+    ensures steps { StepsRead J.making J.log begun read.new.seen 0 read.old.plan read.new.plan }
+    ensures refused { EndsFor ⊥ ⊥ read.new.plan.at }
 {
     let looked = look_at(nodes, rt, &read.plan);
     take_look::<J>(read, looked);
@@ -149,7 +155,9 @@ fn ask_stage<K: Keeper, J: Sharing, R: Wait, L: Link>(
     requires stage { stage_of read.old.plan.at ≡ stage.Ask }
     ensures steps { StepsRead J.making J.log begun read.new.seen ((L.shown link.new).carries - (L.shown link.old).carries)
         read.old.plan read.new.plan }
-    ensures later { (L.shown link.old).carries ≤ (L.shown link.new).carries }
+    ensures carries { (L.shown link.old).carries ≤ (L.shown link.new).carries }
+    ensures later { (L.shown link.old).faults ≤ (L.shown link.new).faults }
+    ensures refused { EndsFor (Rose (L.shown link.old).faults (L.shown link.new).faults) (MayFail K.state) read.new.plan.at }
 {
     let carries = link.carries();
     let asked = ask_over(nodes, rt, link, &read.plan);
@@ -169,8 +177,10 @@ fn ask_over<K: Keeper, J: Sharing, R: Wait, L: Link>(
     requires serves { IsFollowerFor J.making.settings (query_shard plan.now.query) plan.now.follower }
     ensures given { IfOk result (λ asked. IsRightAnswer (types_of J.making.settings.schema) (IsOfLog J.log)
         (wanted plan.now.query plan.now.floor) asked.given) }
-    ensures later { (L.shown link.old).carries ≤ (L.shown link.new).carries }
-    ensures err { IfErr result AnswersNothing }
+    ensures past { IfOk result (λ asked. IsUndecidedGiven (types_of J.making.settings.schema) plan.now.query asked.given) }
+    ensures carries { (L.shown link.old).carries ≤ (L.shown link.new).carries }
+    ensures later { (L.shown link.old).faults ≤ (L.shown link.new).faults }
+    ensures err { IfErr result (RepliesRefused (Rose (L.shown link.old).faults (L.shown link.new).faults) (MayFail K.state)) }
 {
     let shard = plan.query().shard();
     let leader = nodes.leader_for(plan.region(), shard);
@@ -190,7 +200,8 @@ fn ask_at<K: Keeper, J: Sharing, R: Wait>(
     requires serves { IsLeaderFor J.making.settings (query_shard plan.now.query) leader }
     ensures given { IfOk result (λ asked. IsRightAnswer (types_of J.making.settings.schema) (IsOfLog J.log)
         (wanted plan.now.query plan.now.floor) asked.given) }
-    ensures err { IfErr result AnswersNothing }
+    ensures past { IfOk result (λ asked. IsUndecidedGiven (types_of J.making.settings.schema) plan.now.query asked.given) }
+    ensures err { IfErr result (RepliesRefused ⊥ (MayFail K.state)) }
 {
     let (query, floor) = (plan.query(), plan.floor());
     let at = region_store(plan.region(), query.shard());
@@ -211,7 +222,9 @@ fn master_stage<K: Keeper, J: Sharing, R: Wait, L: Link>(
     requires stage { stage_of read.old.plan.at ≡ stage.Master }
     ensures steps { StepsRead J.making J.log begun read.new.seen ((L.shown link.new).carries - (L.shown link.old).carries)
         read.old.plan read.new.plan }
-    ensures later { (L.shown link.old).carries ≤ (L.shown link.new).carries }
+    ensures carries { (L.shown link.old).carries ≤ (L.shown link.new).carries }
+    ensures later { (L.shown link.old).faults ≤ (L.shown link.new).faults }
+    ensures refused { EndsFor (Rose (L.shown link.old).faults (L.shown link.new).faults) (MayFail K.state) read.new.plan.at }
 {
     let carries = link.carries();
     let out = read_right(nodes, rt, link, read);
@@ -234,8 +247,10 @@ fn read_right<K: Keeper, J: Sharing, R: Wait, L: Link>(
     ensures plan { read.new.plan ≡ read.old.plan }
     ensures given { IfOk result (λ read_out. IsRightAnswer (types_of J.making.settings.schema) (IsOfLog J.log)
         (wanted_by begun (asked_by read.new.plan)) (given_of read_out.out)) }
-    ensures later { (L.shown link.old).carries ≤ (L.shown link.new).carries }
-    ensures err { IfErr result AnswersNothing }
+    ensures past { IfOk result (λ read_out. IsUndecidedGiven (types_of J.making.settings.schema) read.new.plan.query (given_of read_out.out)) }
+    ensures carries { (L.shown link.old).carries ≤ (L.shown link.new).carries }
+    ensures later { (L.shown link.old).faults ≤ (L.shown link.new).faults }
+    ensures err { IfErr result (RepliesRefused (Rose (L.shown link.old).faults (L.shown link.new).faults) (MayFail K.state)) }
 {
     read_over(nodes, rt, link, &read.plan, &mut read.seen)
 }
@@ -252,9 +267,11 @@ fn read_over<K: Keeper, J: Sharing, R: Wait, L: Link>(
     requires log { IsOfLog J.log (query_shard plan.now.query) seen.old }
     ensures given { IfOk result (λ read. (floor : ℕ) → ReachesIn seen.old (query_key plan.now.query) floor
         → IsRightAnswer (types_of J.making.settings.schema) (IsOfLog J.log) (wanted plan.now.query floor) (given_of read.out)) }
+    ensures past { IfOk result (λ read. IsUndecidedGiven (types_of J.making.settings.schema) plan.now.query (given_of read.out)) }
     ensures grows { Grows seen.old seen.new }
-    ensures later { (L.shown link.old).carries ≤ (L.shown link.new).carries }
-    ensures err { IfErr result AnswersNothing }
+    ensures carries { (L.shown link.old).carries ≤ (L.shown link.new).carries }
+    ensures later { (L.shown link.old).faults ≤ (L.shown link.new).faults }
+    ensures err { IfErr result (RepliesRefused (Rose (L.shown link.old).faults (L.shown link.new).faults) (MayFail K.state)) }
 {
     let query = plan.query();
     let at = master_store(nodes.config(), query.shard());
@@ -275,7 +292,8 @@ fn keep_stage<K: Keeper, J: Sharing, R: Wait>(
     ghost begun: { Begun }
     requires read { IsReadOf J.making J.log begun read.old.seen read.old.plan }
     requires stage { stage_of read.old.plan.at ≡ stage.Keep }
-    ensures { StepsRead J.making J.log begun read.new.seen 0 read.old.plan read.new.plan }
+    ensures steps { StepsRead J.making J.log begun read.new.seen 0 read.old.plan read.new.plan }
+    ensures refused { EndsFor ⊥ ⊥ read.new.plan.at }
 {
     if read.plan.has_fill() {
         keep_given(nodes, rt, read);
@@ -294,7 +312,8 @@ fn keep_given<K: Keeper, J: Sharing, R: Wait>(
     ghost begun: { Begun }
     requires read { IsReadOf J.making J.log begun read.old.seen read.old.plan }
     requires fill { has_fill read.old.plan.at ≡ true }
-    ensures { StepsRead J.making J.log begun read.new.seen 0 read.old.plan read.new.plan }
+    ensures steps { StepsRead J.making J.log begun read.new.seen 0 read.old.plan read.new.plan }
+    ensures refused { EndsFor ⊥ ⊥ read.new.plan.at }
 {
     let Some(fill) = read.plan.fill() else {
         unreachable!();
@@ -318,8 +337,9 @@ fn keep_over<K: Keeper, J: Sharing, R: Wait>(
     requires log { IsOfLog J.log (query_shard plan.now.query) seen.old }
     ensures grows { Grows seen.old seen.new }
     ensures legal { IfOk result (λ r. IsLegalIn (types_of J.making.settings.schema) seen.new plan.now.query plan.now.floor r.0 fill.version) }
-    ensures kept { IfOk result (λ r. IsKeptSo seen.new (asked_by plan.now) (kept_or_not r.1)) }
-    ensures err { IfErr result AnswersNothing }
+    ensures kept { IfOk result (λ r.
+        IsKeptSo (answered_in (types_of J.making.settings.schema) seen.new (asked_by plan.now) fill.version) (kept_or_not r.1)) }
+    ensures err { IfErr result (RepliesRefused ⊥ ⊥) }
 {
     let mut fill = fill;
     let Ok(of_fill) = fill.split_note() else {
@@ -346,7 +366,9 @@ fn step<K: Keeper, J: Sharing, R: Wait, L: Link>(
     requires goes_on { stage_of read.old.plan.at ≢ stage.Done }
     ensures steps { StepsRead J.making J.log begun read.new.seen ((L.shown link.new).carries - (L.shown link.old).carries)
         read.old.plan read.new.plan }
-    ensures later { (L.shown link.old).carries ≤ (L.shown link.new).carries }
+    ensures carries { (L.shown link.old).carries ≤ (L.shown link.new).carries }
+    ensures later { (L.shown link.old).faults ≤ (L.shown link.new).faults }
+    ensures refused { EndsFor (Rose (L.shown link.old).faults (L.shown link.new).faults) (MayFail K.state) read.new.plan.at }
 {
     match read.plan.next() {
         ReadStage::Look => look_stage(nodes, rt, read),
@@ -367,10 +389,12 @@ fn run_read<K: Keeper, J: Sharing, R: Wait, L: Link>(
     ghost begun: { Begun }
     requires read { IsReadOf J.making J.log begun read.seen read.plan }
     requires carries { begun.carries ≡ (L.shown link.old).carries }
+    requires faults { begun.faults ≡ (L.shown link.old).faults }
+    requires going { EndsFor ⊥ ⊥ read.plan.at }
     requires hops { read.plan.hops ≡ 0 }
     ensures log { IsOfLog J.log (query_shard read.plan.query) result.1 }
     ensures grows { Grows begun.seen result.1 }
-    ensures ends { EndsRead (types_of J.making.settings.schema) begun (asked_by read.plan) result.1 (L.shown link.new).carries result.0 }
+    ensures ends { EndsRead (on_cluster K.TELLS K.state J.making J.log) begun (asked_by read.plan) result.1 (L.shown link.new) result.0 }
 {
     let mut read = read;
     for _ in rt.forever() {
@@ -387,7 +411,7 @@ fn run_read<K: Keeper, J: Sharing, R: Wait, L: Link>(
 ///
 /// An answer is legal in what the pass has then seen, at that floor, and for a critical read at the key's version in what the pass had seen before. The
 /// session learns the version that it is told, and nothing else; where the answer isn't kept, the pass has seen why. The hops are the carries that the
-/// link counted. Where there is no memory, the reply is want of it, and the session has learnt nothing.
+/// link counted. A refusal teaches the session nothing: the link failed in this call, a keeper did, or there was no memory.
 pub fn read<K: Keeper, J: Sharing, R: Wait, L: Link>(
     nodes: &LockedNodes<'_, K, J>,
     rt: &R,
@@ -401,17 +425,15 @@ pub fn read<K: Keeper, J: Sharing, R: Wait, L: Link>(
     ensures pass { IsPassOf J.making J.log pass.new }
     ensures on { PassGoesOn pass.old pass.new }
     ensures replies { (seen : View) → slice_get pass.old.notes (query_shard query) ≡ Some seen
-        → RepliesToRead J.making (begun seen (L.shown link.old)) (asked_with J.making pass.old query critical) pass.old pass.new
-        (L.shown link.new).carries result }
+        → RepliesToRead (on_cluster K.TELLS K.state J.making J.log) (begun seen (L.shown link.old)) (asked_with J.making pass.old query critical)
+        pass.old pass.new (L.shown link.new) result }
 {
     let key = query.key();
     let Ok(seen) = prepare::<J>(pass, key.shard()) else {
         return out_of_memory();
     };
-    let Some(plan) = begin_read(nodes, pass, query, critical) else {
-        return no_server(pass.region());
-    };
+    let plan = begin_read(nodes, pass, query, critical);
     let (reply, seen) = run_read(nodes, rt, link, OpenRead { plan, seen });
-    learn_reply::<J>(pass, &key, seen, &reply);
+    learn_told::<J>(pass, &key, seen, version_told(&reply));
     reply
 }

@@ -1,26 +1,28 @@
 //! What a read takes of a stage, and its note sees with it.
 ghost use Rattle.std.specs.Prelude.{◌≡◌, IfErr, IfOk, IfSome, false, true};
-ghost use Rattle.cluster_reads.specs.Reads.{IsHandedOut, IsKeptSo, IsPastAt, IsReadOf, StepsRead, asked_by, wanted_by};
+ghost use Rattle.cluster_reads.specs.Reads.{IsHandedOut, IsKeptSo, IsPastAt, IsReadOf, EndsFor, StandsAfter, StepsRead};
+ghost use Rattle.cluster_reads.specs.Reads.{answered_in, asked_by, wanted_by};
 ghost use Rattle.core_model.specs.Reads.{IsRightAnswer, given_of, wanted};
 ghost use Rattle.locked_nodes.specs.Begun.{Begun};
-ghost use Rattle.locked_nodes.specs.Replies.{AnswersNothing};
+ghost use Rattle.locked_nodes.specs.Replies.{RepliesRefused};
 ghost use Rattle.log_names.specs.Names.{IsOfLog};
 ghost use Rattle.read_plan.specs.Keeping.{kept_or_not};
 ghost use Rattle.read_plan.specs.Standings.{stage_of};
 ghost use Rattle.read_plan.specs.declared.stages.ReadStage.TheVariants as stage;
 ghost use Rattle.shard_log.specs.GrowthLaws.{IsLegalIn};
 ghost use Rattle.shard_log.specs.View.{Grows};
-ghost use Rattle.shared_nodes.specs.Nodes.{IsLegalHit};
+ghost use Rattle.locked_nodes.specs.shared_nodes.Nodes.{IsLegalHit};
+ghost use Rattle.shared_stores.specs.PastBound.{IsUndecidedGiven};
 ghost use Rattle.tao_base.specs.Queries.{query_shard};
 ghost use Rattle.tao_schema.specs.Schema.{types_of};
 
 use ask_table::AskNo;
 use cache_items::{Kept, Look};
+use locked_nodes::shared_nodes::{SharedKept, SharedLook};
 use locked_nodes::{Asked, Mastered};
 use read_plan::{ReadPlan, ReadResult};
 use replies::Reply;
 use shard_log::Note;
-use shared_nodes::{SharedKept, SharedLook};
 use shared_stores::Sharing;
 use store_replies::out_of_memory;
 use tao_base::{Answer, OutOfMemory};
@@ -41,7 +43,8 @@ pub(crate) fn take_look<J: Sharing>(read: &mut OpenRead, looked: Result<SharedLo
     requires note { IfOk looked (λ found. IsOfLog J.log (query_shard read.old.plan.query) found.note) }
     requires legal { IfOk looked (λ found.
         IsLegalHit (types_of J.making.settings.schema) found.note (wanted read.old.plan.query read.old.plan.floor) found.look) }
-    ensures { StepsRead J.making J.log begun read.new.seen 0 read.old.plan read.new.plan }
+    ensures steps { StepsRead J.making J.log begun read.new.seen 0 read.old.plan read.new.plan }
+    ensures refused { EndsFor ⊥ ⊥ read.new.plan.at }
 {
     match looked {
         Ok(found) => take_found::<J>(read, found),
@@ -59,7 +62,8 @@ fn take_found<J: Sharing>(read: &mut OpenRead, found: SharedLook)
     requires plain { read.old.plan.critical ≡ false }
     requires note { IsOfLog J.log (query_shard read.old.plan.query) found.note }
     requires legal { IsLegalHit (types_of J.making.settings.schema) found.note (wanted read.old.plan.query read.old.plan.floor) found.look }
-    ensures { StepsRead J.making J.log begun read.new.seen 0 read.old.plan read.new.plan }
+    ensures steps { StepsRead J.making J.log begun read.new.seen 0 read.old.plan read.new.plan }
+    ensures refused { EndsFor ⊥ ⊥ read.new.plan.at }
 {
     let SharedLook { look, ask, note } = found;
     read.seen.meet(note);
@@ -73,7 +77,8 @@ pub(crate) fn take_ask<J: Sharing>(read: &mut OpenRead, ask: Option<AskNo>)
     requires read { IsReadOf J.making J.log begun read.old.seen read.old.plan }
     requires stage { stage_of read.old.plan.at ≡ stage.Look }
     requires critical { read.old.plan.critical ≡ true }
-    ensures { StepsRead J.making J.log begun read.new.seen 0 read.old.plan read.new.plan }
+    ensures steps { StepsRead J.making J.log begun read.new.seen 0 read.old.plan read.new.plan }
+    ensures refused { EndsFor ⊥ ⊥ read.new.plan.at }
 {
     read.plan.set_ask(ask);
     read.plan.take(ReadResult::Look(Ok(Look::Miss)), 0, false);
@@ -86,11 +91,15 @@ pub(crate) fn take_asked<J: Sharing>(read: &mut OpenRead, asked: Result<Asked, R
     requires stage { stage_of read.old.plan.at ≡ stage.Ask }
     requires given { IfOk asked (λ asked. IsRightAnswer (types_of J.making.settings.schema) (IsOfLog J.log)
         (wanted read.old.plan.query read.old.plan.floor) asked.given) }
-    requires err { IfErr asked AnswersNothing }
-    ensures { StepsRead J.making J.log begun read.new.seen hops read.old.plan read.new.plan }
+    requires past { IfOk asked (λ asked. IsUndecidedGiven (types_of J.making.settings.schema) read.old.plan.query asked.given) }
+    ensures steps { StepsRead J.making J.log begun read.new.seen hops read.old.plan read.new.plan }
+    ensures after { StandsAfter asked read.new.plan.at }
 {
     match asked {
-        Ok(Asked { given, store }) => read.plan.take(ReadResult::Ask(Ok(given)), hops, store),
+        Ok(came) => {
+            let Asked { given, store } = came;
+            read.plan.take(ReadResult::Ask(Ok(given)), hops, store);
+        }
         Err(reply) => read.plan.take(ReadResult::Ask(Err(reply)), hops, false),
     }
 }
@@ -102,8 +111,9 @@ pub(crate) fn take_out<J: Sharing>(read: &mut OpenRead, out: Result<Mastered, Re
     requires stage { stage_of read.old.plan.at ≡ stage.Master }
     requires given { IfOk out (λ read_out. IsRightAnswer (types_of J.making.settings.schema) (IsOfLog J.log)
         (wanted_by begun (asked_by read.old.plan)) (given_of read_out.out)) }
-    requires err { IfErr out AnswersNothing }
-    ensures { StepsRead J.making J.log begun read.new.seen hops read.old.plan read.new.plan }
+    requires past { IfOk out (λ read_out. IsUndecidedGiven (types_of J.making.settings.schema) read.old.plan.query (given_of read_out.out)) }
+    ensures steps { StepsRead J.making J.log begun read.new.seen hops read.old.plan read.new.plan }
+    ensures after { StandsAfter out read.new.plan.at }
 {
     match out {
         Ok(mastered) => {
@@ -140,9 +150,11 @@ pub(crate) fn take_kept<J: Sharing>(
     requires read { IsHandedOut J.making J.log begun read.old.seen read.old.plan version }
     requires legal { IfOk came (λ r.
         IsLegalIn (types_of J.making.settings.schema) read.old.seen read.old.plan.query read.old.plan.floor r.0 version) }
-    requires kept { IfOk came (λ r. IsKeptSo read.old.seen (asked_by read.old.plan) (kept_or_not r.1)) }
-    requires err { IfErr came AnswersNothing }
-    ensures { StepsRead J.making J.log begun read.new.seen 0 read.old.plan read.new.plan }
+    requires kept { IfOk came (λ r.
+        IsKeptSo (answered_in (types_of J.making.settings.schema) read.old.seen (asked_by read.old.plan) version) (kept_or_not r.1)) }
+    requires err { IfErr came (RepliesRefused ⊥ ⊥) }
+    ensures steps { StepsRead J.making J.log begun read.new.seen 0 read.old.plan read.new.plan }
+    ensures refused { EndsFor ⊥ ⊥ read.new.plan.at }
 {
     match came {
         Ok(found) => read.plan.take(ReadResult::Keep(Ok(Some(found))), 0, false),
@@ -155,7 +167,8 @@ pub(crate) fn take_past<J: Sharing>(read: &mut OpenRead)
     ghost begun: { Begun }
     requires read { IsReadOf J.making J.log begun read.old.seen read.old.plan }
     requires past { IsPastAt read.old.plan.at }
-    ensures { StepsRead J.making J.log begun read.new.seen 0 read.old.plan read.new.plan }
+    ensures steps { StepsRead J.making J.log begun read.new.seen 0 read.old.plan read.new.plan }
+    ensures refused { EndsFor ⊥ ⊥ read.new.plan.at }
 {
     let Some(note) = read.plan.note() else {
         unreachable!();

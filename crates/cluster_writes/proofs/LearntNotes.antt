@@ -4,6 +4,7 @@ use Rattle.std.proofs.Common.{arith}
 use Rattle.std.specs.Prelude.{IfSome, slice_get, slice_set}
 use Rattle.std.specs.Option.{option_map}
 use Rattle.locked_nodes.proofs.Seeing.{goes_self, goes_trans, saw, some_and, some_parts}
+use Rattle.locked_nodes.specs.Nodes.{HasTier}
 use Rattle.locked_nodes.specs.Passes.{AreOfTheirLogs, IsPassOf, NotesGrow, SeesNote}
 use Rattle.log_names.specs.Names.{IsOfLog, LogNames}
 use Rattle.session_pass.specs.Floors.{FloorsRise}
@@ -13,7 +14,7 @@ use Rattle.shard_log.specs.View.{Grows, View}
 use Rattle.shard_tables.specs.declared.writes.Wrote.{Wrote}
 use Rattle.shared_stores.specs.Making.{Making}
 use Rattle.tao_base.specs.declared.entry.Entry.{Entry}
-use Rattle.cluster_writes.specs.Learning.{LearnsOf, LearnsOther, SeesThere, if_told}
+use Rattle.cluster_writes.specs.Learning.{LearnsOf, LearnsOther, LearnsThere, SeesThere, if_told}
 
 -- each other place of a list of which one was set
 pub elsewhere : {X : Type 0} (xs : List X) (k n : ℕ) (x : X) → n ≢ k → slice_get (slice_set xs k x) n ≡ slice_get xs n
@@ -44,23 +45,24 @@ module _ (m : Making) (log : LogNames) where
       let met = saw m log shard note old (record old { notes = after_meeting shard note old.notes }) is here of_log refl meets in
       let notes : new.notes ≡ after_meeting shard note old.notes = ap (λ (p : SeenPass). p.notes) learns.rest in
       let home : new.region ≡ old.region = ap (λ (p : SeenPass). p.region) learns.rest in
+      let place : new.tier ≡ old.tier = ap (λ (p : SeenPass). p.tier) learns.rest in
       record {
         pass = record {
           home = subst (λ r. r < length m.settings.regions) (sym home) is.home;
+          tier = subst (λ r. HasTier m.settings r new.tier) (sym home) (subst (HasTier m.settings old.region) (sym place) is.tier);
           long = ap length notes ∙ met.pass.long;
           notes = subst (AreOfTheirLogs log) (sym notes) met.pass.notes;
         };
         on = record {
           session = ap (λ (p : SeenPass). p.session) learns.rest;
           region = home;
-          tier = ap (λ (p : SeenPass). p.tier) learns.rest;
+          tier = place;
           floors = rise;
           notes = subst (NotesGrow old.notes) (sym notes) met.on.notes;
         };
         notes = notes;
         sees = subst (SeesNote shard note) (sym notes) met.sees;
         learns = learns.floors;
-        nothing = λ none. absurd (let e : Some entry ≡ None = none in cc);
         spare = spare;
       }
 
@@ -75,8 +77,7 @@ module _ (m : Making) (log : LogNames) where
         on = done.on;
         notes = ap (λ (p : SeenPass). p.notes) same;
         sees = done.sees;
-        learns = tt;
-        nothing = λ none. ap (λ (p : SeenPass). p.floors) same;
+        learns = ap (λ (p : SeenPass). p.floors) same;
         spare = omega (arith, room);
       }
 
@@ -87,23 +88,27 @@ module _ (m : Making) (log : LogNames) where
     pass = learns.pass;
     on = learns.on;
     sees = learns.sees;
+    met = learns.notes;
+    unmet = λ none. absurd (let e : Some note ≡ None = none in cc);
     apart = λ k other. ap (λ (ns : List View). slice_get ns k) learns.notes ∙ elsewhere old.notes shard k _ other;
   }
 
   -- nothing was there to see
   pub unseen_there : (shard : ℕ) (pass : SeenPass) → IsPassOf m log pass → SeesThere m log shard None pass pass
-  unseen_there shard pass is = record { pass = is; on = goes_self pass; sees = tt; apart = λ k other. refl }
+  unseen_there shard pass is = record { pass = is; on = goes_self pass; sees = tt; met = tt; unmet = λ none. refl; apart = λ k other. refl }
 
   -- what was written on the other shard, and then what was seen there
-  pub both_there : (shard : ℕ) (wrote : Option Wrote) (seen : Option View) (old mid new : SeenPass)
-      → SeesThere m log shard (option_map (λ (w : Wrote). w.note) wrote) old mid → SeesThere m log shard seen mid new
-      → LearnsOther m log (Some shard) wrote seen old new
-  both_there shard wrote seen old mid new first next = record {
+  pub both_there : (told : Bool) (shard : ℕ) (wrote : Option Wrote) (seen : Option View) (old mid new : SeenPass)
+      → SeesThere m log shard (option_map (λ (w : Wrote). w.note) wrote) old mid → LearnsThere told (Some shard) wrote old.floors mid.floors
+      → SeesThere m log shard seen mid new → new.floors ≡ mid.floors → LearnsOther m log told (Some shard) wrote seen old new
+  both_there told shard wrote seen old mid new first learns next same = record {
     pass = next.pass;
     on = goes_trans old mid new first.on next.on;
     wrote = by wrote first.sees;
     seen = next.sees;
+    alone = met wrote first.met;
     apart = λ k other. next.apart k (λ e. other (ap Some (sym e))) ∙ first.apart k (λ e. other (ap Some (sym e)));
+    learns = subst (LearnsThere told (Some shard) wrote old.floors) (sym same) learns;
   }
     where
       by : (o : Option Wrote) → IfSome (option_map (λ (w : Wrote). w.note) o) (λ v. SeesNote shard v mid.notes)
@@ -111,6 +116,12 @@ module _ (m : Making) (log : LogNames) where
       by None sees = tt
       by (Some w) sees = sees_on shard w.note mid.notes new.notes sees next.on.notes
 
+      met : (o : Option Wrote) → IfSome (option_map (λ (w : Wrote). w.note) o) (λ v. mid.notes ≡ after_meeting shard v old.notes)
+          → IfSome o (λ w. seen ≡ None → new.notes ≡ after_meeting shard w.note old.notes)
+      met None is = tt
+      met (Some w) is = λ none. next.unmet none ∙ is
+
   -- there is no other shard
-  pub no_other : (wrote : Option Wrote) (seen : Option View) (pass : SeenPass) → IsPassOf m log pass → LearnsOther m log None wrote seen pass pass
-  no_other wrote seen pass is = record { pass = is; on = goes_self pass; wrote = tt; seen = tt; apart = λ k other. refl }
+  pub no_other : (told : Bool) (wrote : Option Wrote) (seen : Option View) (pass : SeenPass) → IsPassOf m log pass
+      → LearnsOther m log told None wrote seen pass pass
+  no_other told wrote seen pass is = record { pass = is; on = goes_self pass; wrote = tt; seen = tt; alone = tt; apart = λ k other. refl; learns = refl }

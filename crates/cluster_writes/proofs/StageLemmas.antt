@@ -1,11 +1,13 @@
 -- Which stage of a write is next, and what its stages come to.
-use Rattle.std.proofs.Common.{◌≡◌, ◌≤◌, ◌<◌, Bool, true, false, Option, Some, None, refl, ap, sym, subst, ◌∙◌, arith}
-use Rattle.std.specs.Prelude.{◌≢◌, ⊤, IfSome, IsSome, is_some, length, option_and_then, unwrap_or}
-use Rattle.cluster_writes.specs.Open.{IsBeforeEnd, IsDoneThere, IsLeftFor}
-use Rattle.cluster_writes.specs.Open.{OnCluster, OwesIn}
+use Rattle.std.proofs.Common.{◌≡◌, ◌≤◌, ◌<◌, List, Bool, true, false, Option, Some, None, refl, ap, sym, subst, ◌∙◌, arith}
+use Rattle.std.specs.Prelude.{◌≢◌, ⊤, IfSome, IsSome, IsSomeAnd, is_some, length, option_and_then, slice_get, unwrap_or}
+use Rattle.cluster_writes.specs.Open.{IsBeforeEnd, IsDoneThere, IsLeftFor, OwesIn}
 use Rattle.core_model.specs.Asked.{AuthoredWrite}
 use Rattle.core_model.specs.Jobs.{far_shard}
-use Rattle.locked_writes.specs.Writes.{CommitsIn, MayFail, StaysOpenFor}
+use Rattle.graph_model.specs.Told.{WhereTold}
+use Rattle.locked_nodes.proofs.Seeing.{some_and}
+use Rattle.locked_nodes.specs.Cluster.{MayFail, OnCluster}
+use Rattle.locked_writes.specs.Writes.{CommitsIn, MergesSince, StaysOpenFor}
 use Rattle.node_name.specs.declared.NodeName.{NodeName}
 use Rattle.replies.specs.declared.calls.ScheduledWhy.{ScheduledWhy}
 use Rattle.replies.specs.declared.calls.ScheduledWhy.TheVariants as why
@@ -197,3 +199,25 @@ module _ {M : Type 0} (on : OnCluster M) where
       (of_some (answered_entry p) e (λ f. IsDoneIn on.making on.log note (owed_by (write_shard p.write) job f)) at.entry_is
       (of_some (answered_job p) job
       (λ j. IfSome (answered_entry p) (λ f. IsDoneIn on.making on.log note (owed_by (write_shard p.write) j f))) at.job_is done))
+
+  -- what was written begins with what the pass had seen there
+  pub since_there : (p : Writing) (job : Job) (e : Entry) (owed : Owed) (notes : List View) (there note : View) → IsOwedAt p job e owed
+      → slice_get notes owed.to ≡ Some there → Grows there note
+      → IfSome (answered_job p) (λ j. IfSome (slice_get notes (far_shard j)) (λ own. Grows own note))
+  since_there p job e owed notes there note at found grows =
+      let here : slice_get notes (far_shard job) ≡ Some there = ap (λ k. slice_get notes k) (sym (to_is p job e owed at)) ∙ found in
+      if_some (answered_job p) job (λ j. IfSome (slice_get notes (far_shard j)) (λ own. Grows own note)) at.job_is
+      (if_some (slice_get notes (far_shard job)) there (λ own. Grows own note) here grows)
+
+  -- what was written is what there was to merge
+  pub merges_there : (p : Writing) (job : Job) (e : Entry) (owed : Owed) (notes : List View) (there note : View) (wrote : Option Entry)
+      → IsOwedAt p job e owed → slice_get notes owed.to ≡ Some there
+      → WhereTold on.tells (MergesSince owed.from owed.job there.entries note.entries wrote)
+      → WhereTold on.tells (IfSome (answered_job p) (λ j. IsSomeAnd (slice_get notes (far_shard j))
+      (λ own. MergesSince (write_shard p.write) j own.entries note.entries wrote)))
+  merges_there p job e owed notes there note wrote at found merges told =
+      let here : slice_get notes (far_shard job) ≡ Some there = ap (λ k. slice_get notes k) (sym (to_is p job e owed at)) ∙ found in
+      if_some (answered_job p) job
+      (λ j. IsSomeAnd (slice_get notes (far_shard j)) (λ own. MergesSince (write_shard p.write) j own.entries note.entries wrote)) at.job_is
+      (some_and (λ (own : View). MergesSince (write_shard p.write) job own.entries note.entries wrote) (slice_get notes (far_shard job)) there here
+      (subst (λ (o : Owed). MergesSince o.from o.job there.entries note.entries wrote) at.owed_is (merges told)))

@@ -1,22 +1,22 @@
 -- A write that took a stage is still on its way.
-use Rattle.std.proofs.Common.{◌≡◌, ℕ, ◌≤◌, false, true, Option, Some, None, Result, Ok, Err, refl, ap, sym, subst, ◌∙◌, arith}
-use Rattle.std.specs.Prelude.{◌-◌, ◌<◌, ◌≢◌, ⊤, IfErr, IfOk, IfSome, IsSome, IsSomeAnd, IsTrue, length, option_and_then}
+use Rattle.std.proofs.Common.{◌≡◌, ℕ, ◌≤◌, false, true, List, Option, Some, None, Result, Ok, Err, refl, ap, sym, subst, ◌∙◌, arith}
+use Rattle.std.specs.Prelude.{◌-◌, ◌<◌, ◌≢◌, ⊤, IfErr, IfOk, IfSome, IsSome, IsSomeAnd, IsTrue, length, option_and_then, slice_get}
 use Rattle.counts.proofs.Rises.{Rose-earlier, Rose-later}
 use Rattle.counts.specs.Count.{Rose}
 use Rattle.hop_count.specs.Hops.{hops_after}
 use Rattle.cluster_writes.proofs.StageLemmas.{commits_since, held_in, if_map, if_none, if_some, left_later, left_near, of_some, some_of}
 use Rattle.cluster_writes.proofs.StageLemmas.{stands_at, stands_on}
-use Rattle.cluster_writes.specs.Open.{HasNotes, IsAnswerOf, IsBeforeEnd, IsCommitOf, IsCommitRefused, IsDoneThere, IsFarView, IsLeftFor}
+use Rattle.cluster_writes.specs.Open.{HasFailedSince, HasNotes, IsAnswerOf, IsBeforeEnd, IsCommitOf, IsCommitRefused, IsDoneThere, IsFarView, IsLeftFor}
 use Rattle.cluster_writes.specs.Open.{IsLinkRefusal, IsMergeOf, IsNotEnded, IsRefusedFor, IsUnderWay, IsWayNote, IsWriteOf, IsWrittenThere, KnowsJob}
-use Rattle.cluster_writes.specs.Open.{MergesSo, OnCluster, OwesIn, RefusesCommit, RefusesOpen, StepsAtOnce, StepsWrite, call_planned}
+use Rattle.cluster_writes.specs.Open.{MergesSo, Opening, OwesIn, RefusesCommit, RefusesOpen, StepsAtOnce, StepsWrite, call_planned}
 use Rattle.cluster_writes.specs.declared.merging.CameOfMerge.{CameOfMerge}
 use Rattle.cluster_writes.specs.declared.open.OpenWrite.{OpenWrite}
 use Rattle.core_model.specs.Asked.{AuthoredWrite, client_call}
 use Rattle.core_model.specs.Jobs.{far_shard}
 use Rattle.core_model.specs.Serving.{IsFollowerFor, IsLeaderFor}
 use Rattle.graph_model.specs.Soundness.{is_client}
-use Rattle.locked_nodes.specs.Begun.{Begun, HasFailed}
-use Rattle.locked_writes.specs.Writes.{CommitsIn}
+use Rattle.locked_nodes.specs.Cluster.{OnCluster}
+use Rattle.locked_writes.specs.Writes.{CommitsIn, MergesSince}
 use Rattle.log_names.specs.Names.{IsOfLog}
 use Rattle.replies.specs.declared.calls.ScheduledWhy.{ScheduledWhy}
 use Rattle.replies.specs.declared.refusals.Refusal.{Refusal}
@@ -89,7 +89,7 @@ record IsSamePlan (p q : Writing) : Type 0 where
 module _ {M : Type 0} (on : OnCluster M) where
   -- ---- what a write on its way owes and has
 
-  owed_at : (begun : Begun) (w : OpenWrite) (c : Committed) (job : Job) (e : Entry) → IsOfLog on.log (write_shard w.plan.write) w.seen
+  owed_at : (begun : Opening) (w : OpenWrite) (c : Committed) (job : Job) (e : Entry) → IsOfLog on.log (write_shard w.plan.write) w.seen
       → IsCommitOf on begun w c → c.wrote.job ≡ Some job → c.wrote.entry ≡ Some e → far_shard job ≢ write_shard w.plan.write
       → IsOwedIn on.tells on.making on.log w.seen (owed_by (write_shard w.plan.write) job e)
   owed_at begun w c job e log of job_is entry_is away = record {
@@ -102,7 +102,7 @@ module _ {M : Type 0} (on : OnCluster M) where
     stands = stands_on c.wrote.note w.seen e of.sees (of_some c.wrote.entry e (StandsIn c.wrote.note) entry_is of.commits.stands);
   }
 
-  owed_by_commit : (begun : Begun) (w : OpenWrite) (o : Option Committed) (job : Job) (e : Entry) → IsOfLog on.log (write_shard w.plan.write) w.seen
+  owed_by_commit : (begun : Opening) (w : OpenWrite) (o : Option Committed) (job : Job) (e : Entry) → IsOfLog on.log (write_shard w.plan.write) w.seen
       → IfSome o (IsCommitOf on begun w) → option_and_then (λ (c : Committed). c.wrote.job) o ≡ Some job
       → option_and_then (λ (c : Committed). c.wrote.entry) o ≡ Some e → far_shard job ≢ write_shard w.plan.write
       → IsOwedIn on.tells on.making on.log w.seen (owed_by (write_shard w.plan.write) job e)
@@ -110,7 +110,7 @@ module _ {M : Type 0} (on : OnCluster M) where
   owed_by_commit begun w (Some c) job e log of job_is entry_is away = owed_at begun w c job e log of job_is entry_is away
 
   -- its job is owed
-  pub owes_in : (begun : Begun) (faults : ℕ) (w : OpenWrite) → IsWriteOf on begun faults w → OwesIn on w.plan w.seen
+  pub owes_in : (begun : Opening) (faults : ℕ) (w : OpenWrite) → IsWriteOf on begun faults w → OwesIn on w.plan w.seen
   owes_in begun faults w is = record {
     owed = λ job e job_is entry_is away. owed_by_commit begun w w.plan.committed job e is.log_is is.committed job_is entry_is away;
   }
@@ -128,31 +128,39 @@ module _ {M : Type 0} (on : OnCluster M) where
           told_is = is.told_is;
         }) far)
 
-    written_like : (wrote : Wrote) → IsWrittenThere on p wrote → IsWrittenThere on q wrote
-    written_like wrote is = record {
+    written_like : (notes : List View) (wrote : Wrote) → IsWrittenThere on notes p wrote → IsWrittenThere on notes q wrote
+    written_like notes wrote is = record {
       done = subst (λ (o : Option Committed). IfSome (option_and_then (λ (c : Committed). c.wrote.job) o)
           (λ job. IfSome (option_and_then (λ (c : Committed). c.wrote.entry) o)
           (λ e. IsDoneIn on.making on.log wrote.note (owed_by (write_shard q.write) job e)))) (sym committed)
           (subst (λ (x : Write). IfSome (answered_job p) (λ job. IfSome (answered_entry p)
           (λ e. IsDoneIn on.making on.log wrote.note (owed_by (write_shard x) job e)))) (sym write) is.done);
       far = far_like wrote.note is.far;
+      since = subst (λ (o : Option Committed). IfSome (option_and_then (λ (c : Committed). c.wrote.job) o)
+          (λ job. IfSome (slice_get notes (far_shard job)) (λ own. Grows own wrote.note))) (sym committed) is.since;
       stands = is.stands;
       lies = subst (λ (o : Option Committed). IfSome (option_and_then (λ (c : Committed). c.wrote.job) o)
           (λ job. IfSome wrote.entry (LiesOn wrote.note (far_shard job)))) (sym committed) is.lies;
+      answers = subst (λ (o : Option Committed). IsSome (option_and_then (λ (c : Committed). c.wrote.entry) o)) (sym committed) is.answers;
+      merges = λ told.
+          subst (λ (o : Option Committed). IfSome (option_and_then (λ (c : Committed). c.wrote.job) o) (λ job. IsSomeAnd (slice_get notes (far_shard job))
+          (λ own. MergesSince (write_shard q.write) job own.entries wrote.note.entries wrote.entry))) (sym committed)
+          (subst (λ (x : Write). IfSome (answered_job p) (λ job. IsSomeAnd (slice_get notes (far_shard job))
+          (λ own. MergesSince (write_shard x) job own.entries wrote.note.entries wrote.entry))) (sym write) (is.merges told));
     }
 
-    others_like : (o : Option Wrote) → IfSome o (IsWrittenThere on p) → IfSome o (IsWrittenThere on q)
-    others_like o = if_map o (IsWrittenThere on p) (IsWrittenThere on q) written_like
+    others_like : (notes : List View) (o : Option Wrote) → IfSome o (IsWrittenThere on notes p) → IfSome o (IsWrittenThere on notes q)
+    others_like notes o = if_map o (IsWrittenThere on notes p) (IsWrittenThere on notes q) (written_like notes)
 
     fars_like : (o : Option View) → IfSome o (λ view. IfSome (answered_job p) (IsFarView on p view))
         → IfSome o (λ view. IfSome (answered_job q) (IsFarView on q view))
     fars_like o = if_map o (λ view. IfSome (answered_job p) (IsFarView on p view)) (λ view. IfSome (answered_job q) (IsFarView on q view)) far_like
 
-  commit_of : (begun : Begun) (faults : ℕ) (w : OpenWrite) (c : Committed) → IsWriteOf on begun faults w → w.plan.committed ≡ Some c
+  commit_of : (begun : Opening) (faults : ℕ) (w : OpenWrite) (c : Committed) → IsWriteOf on begun faults w → w.plan.committed ≡ Some c
       → IsCommitOf on begun w c
   commit_of begun faults w c is c_is = of_some w.plan.committed c (IsCommitOf on begun w) c_is is.committed
 
-  way_note : (begun : Begun) (faults : ℕ) (w : OpenWrite) (c : Committed) → IsWriteOf on begun faults w → w.plan.committed ≡ Some c
+  way_note : (begun : Opening) (faults : ℕ) (w : OpenWrite) (c : Committed) → IsWriteOf on begun faults w → w.plan.committed ≡ Some c
       → IsWayNote on w.plan c.wrote.note
   way_note begun faults w c is c_is =
       let of = commit_of begun faults w c is c_is in
@@ -177,7 +185,7 @@ module _ {M : Type 0} (on : OnCluster M) where
     pub noted : IsWayNote on p note
 
   -- the note for the leader that was passed is there
-  pub relay_held : (begun : Begun) (faults : ℕ) (w : OpenWrite) → IsWriteOf on begun faults w → next_of w.plan ≡ stage.Relay
+  pub relay_held : (begun : Opening) (faults : ℕ) (w : OpenWrite) → IsWriteOf on begun faults w → next_of w.plan ≡ stage.Relay
       → IfSome w.plan.committed (λ c. w.plan.relay ≡ Some c.wrote.note)
   relay_held begun faults w is next =
       let at = stands_at w.plan stage.Relay next in
@@ -185,7 +193,7 @@ module _ {M : Type 0} (on : OnCluster M) where
       if_some w.plan.committed at.c (λ c. w.plan.relay ≡ Some c.wrote.note) at.is
       (held_in at.c.passed (w.plan.relay ≡ Some at.c.wrote.note) at.at.0 (of.notes.relay at.going at.at.1))
 
-  pub spare_held : (begun : Begun) (faults : ℕ) (w : OpenWrite) → IsWriteOf on begun faults w → next_of w.plan ≡ stage.Apply
+  pub spare_held : (begun : Opening) (faults : ℕ) (w : OpenWrite) → IsWriteOf on begun faults w → next_of w.plan ≡ stage.Apply
       → IfSome w.plan.committed (λ c. w.plan.spare ≡ Some c.wrote.note)
   spare_held begun faults w is next =
       let at = stands_at w.plan stage.Apply next in
@@ -202,7 +210,7 @@ module _ {M : Type 0} (on : OnCluster M) where
   inverse_committed w next = let at = stands_at w.plan stage.Inverse next in some_of w.plan.committed at.c at.is
 
   -- what is handed out is right for the leader
-  pub to_relay : (begun : Begun) (faults : ℕ) (w : OpenWrite) (note : View) (p : Writing) → IsWriteOf on begun faults w → next_of w.plan ≡ stage.Relay
+  pub to_relay : (begun : Opening) (faults : ℕ) (w : OpenWrite) (note : View) (p : Writing) → IsWriteOf on begun faults w → next_of w.plan ≡ stage.Relay
       → IfSome w.plan.committed (λ c. note ≡ c.wrote.note) → p ≡ record w.plan { relay = None } → IsToRelay p note
   to_relay begun faults w note p is next note_is p_is =
       let at = stands_at w.plan stage.Relay next in
@@ -219,7 +227,7 @@ module _ {M : Type 0} (on : OnCluster M) where
       })
 
   -- and for the follower
-  pub to_apply : (begun : Begun) (faults : ℕ) (w : OpenWrite) (note : View) (p : Writing) → IsWriteOf on begun faults w → next_of w.plan ≡ stage.Apply
+  pub to_apply : (begun : Opening) (faults : ℕ) (w : OpenWrite) (note : View) (p : Writing) → IsWriteOf on begun faults w → next_of w.plan ≡ stage.Apply
       → IfSome w.plan.committed (λ c. note ≡ c.wrote.note) → p ≡ record w.plan { spare = None } → IsToApply p note
   to_apply begun faults w note p is next note_is p_is =
       let at = stands_at w.plan stage.Apply next in
@@ -233,18 +241,18 @@ module _ {M : Type 0} (on : OnCluster M) where
       })
 
   -- a job that is to be ended is done
-  pub done_held : (begun : Begun) (faults : ℕ) (w : OpenWrite) → IsWriteOf on begun faults w → next_of w.plan ≡ stage.End
+  pub done_held : (begun : Opening) (faults : ℕ) (w : OpenWrite) → IsWriteOf on begun faults w → next_of w.plan ≡ stage.End
       → IsSomeAnd w.done (IsDoneThere on w.plan)
   done_held begun faults w is next = let at = stands_at w.plan stage.End next in is.job.merged at.at.1
 
   -- ---- a stage
 
-  module _ (begun : Begun) (before after : ℕ) (w : OpenWrite) (seen : View) (is : IsWriteOf on begun before w) (le : before ≤ after)
+  module _ (begun : Opening) (before after : ℕ) (w : OpenWrite) (seen : View) (is : IsWriteOf on begun before w) (le : before ≤ after)
       (grows : Grows w.seen seen) where
-    still : HasFailed begun before → HasFailed begun after
+    still : HasFailedSince begun before → HasFailedSince begun after
     still failed = Rose-later begun.faults before after failed le
 
-    since : Rose before after → HasFailed begun after
+    since : Rose before after → HasFailedSince begun after
     since rose = Rose-earlier begun.faults before after is.later rose
 
     seen_on : (c : Committed) (p : Writing) (ended far : Option View) → IsCommitOf on begun w c → call_planned p ≡ call_planned w.plan → HasNotes p c
@@ -288,11 +296,11 @@ module _ {M : Type 0} (on : OnCluster M) where
         → KnowsJob on begun after (record { plan = q; seen = seen; done = w.done; far = w.far })
     way_knows q q_is = subst (λ (p : Writing). KnowsJob on begun after (record { plan = p; seen = seen; done = w.done; far = w.far })) (sym q_is) (record {
       merged = is.job.merged;
-      known = is.job.known;
-      ended = is.job.ended;
-      other = others_like w.plan (record w.plan { relay = q.relay; spare = q.spare; back = q.back; refused = q.refused; hops = q.hops }) refl refl w.plan.other
-          is.job.other;
-      left = λ reason open_is. left_later on (HasFailed begun before) (HasFailed begun after) w.far reason still (is.job.left reason open_is);
+      known = λ merged. let k = is.job.known merged in record { other = k.other; alone = k.alone };
+      ended = λ ended. let k = is.job.ended ended in record { other = k.other; alone = k.alone };
+      other = others_like w.plan (record w.plan { relay = q.relay; spare = q.spare; back = q.back; refused = q.refused; hops = q.hops }) refl refl begun.notes
+          w.plan.other is.job.other;
+      left = λ reason open_is. left_later on (HasFailedSince begun before) (HasFailedSince begun after) w.far reason still (is.job.left reason open_is);
       far = fars_like w.plan (record w.plan { relay = q.relay; spare = q.spare; back = q.back; refused = q.refused; hops = q.hops }) refl refl w.far is.job.far;
       none = is.job.none;
     })
@@ -398,46 +406,46 @@ module _ {M : Type 0} (on : OnCluster M) where
     has_job c o c_is some none =
         none_held c.wrote.job some (sym (ap (option_and_then (λ (x : Committed). x.wrote.job)) c_is) ∙ none)
 
-    inverse_came : (result : Result Wrote LeftOpen) (ended far : Option View) (hops : ℕ) → next_of w.plan ≡ stage.Inverse
-        → MergesSo on w.plan (Rose before after) far result → IfOk result (λ _. IsSomeAnd ended (IsDoneThere on w.plan))
-        → IfSome far (λ view. IfSome (answered_job w.plan) (IsFarView on w.plan view))
+    inverse_came : (came : CameOfMerge) (result : Result Wrote LeftOpen) (hops : ℕ) → next_of w.plan ≡ stage.Inverse
+        → MergesSo on begun.notes w.plan (Rose before after) came result
+        → IfSome came.far (λ view. IfSome (answered_job w.plan) (IsFarView on w.plan view))
         → StepsWrite on begun after hops w
-        (record { plan = after_stage w.plan (came_of.Inverse result) hops; seen = seen; done = ended; far = far })
-    inverse_came (Ok wrote) ended far hops next so is_done is_far =
+        (record { plan = after_stage w.plan (came_of.Inverse result) hops; seen = seen; done = came.done; far = came.far })
+    inverse_came came (Ok wrote) hops next so is_far =
         let at = stands_at w.plan stage.Inverse next in
         record {
-          write = job_kept at.c (after_stage w.plan (came_of.Inverse (Ok wrote)) hops) ended far at.going at.is refl (record {
-            merged = λ merged. is_done;
-            known = λ merged. known_now w.plan.other wrote;
+          write = job_kept at.c (after_stage w.plan (came_of.Inverse (Ok wrote)) hops) came.done came.far at.going at.is refl (record {
+            merged = λ merged. so.1;
+            known = λ merged. record { other = known_now w.plan.other wrote; alone = so.2 };
             ended = λ e. absurd (let x : Merged ≡ Ended = e in cc);
-            other = others_like w.plan (after_stage w.plan (came_of.Inverse (Ok wrote)) hops) refl refl (written_there w.plan.other (Some wrote))
-                (known_there w.plan.other (Some wrote) (IsWrittenThere on w.plan) is.job.other so);
+            other = others_like w.plan (after_stage w.plan (came_of.Inverse (Ok wrote)) hops) refl refl begun.notes (written_there w.plan.other (Some wrote))
+                (known_there w.plan.other (Some wrote) (IsWrittenThere on begun.notes w.plan) is.job.other so.0);
             left = λ reason open_is. absurd (let e : Merged ≡ Open reason = open_is in cc);
-            far = fars_like w.plan (after_stage w.plan (came_of.Inverse (Ok wrote)) hops) refl refl far is_far;
+            far = fars_like w.plan (after_stage w.plan (came_of.Inverse (Ok wrote)) hops) refl refl came.far is_far;
             none = λ none. absurd (has_job at.c w.plan.committed at.is at.at.0 none);
           });
           same = refl;
           hops = refl;
         }
-    inverse_came (Err (Scheduled why wrote)) ended far hops next so is_done is_far =
+    inverse_came came (Err (Scheduled why wrote)) hops next so is_far =
         let at = stands_at w.plan stage.Inverse next in
         record {
-          write = job_kept at.c (after_stage w.plan (came_of.Inverse (Err (Scheduled why wrote))) hops) ended far at.going at.is refl (record {
+          write = job_kept at.c (after_stage w.plan (came_of.Inverse (Err (Scheduled why wrote))) hops) came.done came.far at.going at.is refl (record {
             merged = λ merged. absurd (let e : Open why ≡ Merged = merged in cc);
             known = λ merged. absurd (let e : Open why ≡ Merged = merged in cc);
             ended = λ e. absurd (let x : Open why ≡ Ended = e in cc);
-            other = others_like w.plan (after_stage w.plan (came_of.Inverse (Err (Scheduled why wrote))) hops) refl refl (written_there w.plan.other wrote)
-                (known_there w.plan.other wrote (IsWrittenThere on w.plan) is.job.other so.1);
+            other = others_like w.plan (after_stage w.plan (came_of.Inverse (Err (Scheduled why wrote))) hops) refl refl begun.notes (written_there w.plan.other wrote)
+                (known_there w.plan.other wrote (IsWrittenThere on begun.notes w.plan) is.job.other so.1);
             left = λ reason open_is.
-                subst (IsLeftFor on (HasFailed begun after) far) (same_reason why reason open_is)
-                (left_later on (Rose before after) (HasFailed begun after) far why since so.0);
-            far = fars_like w.plan (after_stage w.plan (came_of.Inverse (Err (Scheduled why wrote))) hops) refl refl far is_far;
+                subst (IsLeftFor on (HasFailedSince begun after) came.far) (same_reason why reason open_is)
+                (left_later on (Rose before after) (HasFailedSince begun after) came.far why since so.0);
+            far = fars_like w.plan (after_stage w.plan (came_of.Inverse (Err (Scheduled why wrote))) hops) refl refl came.far is_far;
             none = λ none. absurd (has_job at.c w.plan.committed at.is at.at.0 none);
           });
           same = refl;
           hops = refl;
         }
-    inverse_came (Err (remains.Refused said)) ended far hops next so is_done is_far = absurd so
+    inverse_came came (Err (remains.Refused said)) hops next so is_far = absurd so
 
     end_came : (result : Result ⊤ LeftOpen) (hops : ℕ) → next_of w.plan ≡ stage.End → IfErr result (IsNotEnded on)
         → StepsWrite on begun after hops w
@@ -448,8 +456,8 @@ module _ {M : Type 0} (on : OnCluster M) where
           write = job_kept at.c (after_stage w.plan (came_of.End (Ok ended)) hops) None w.far at.going at.is refl (record {
             merged = λ merged. absurd (let e : Ended ≡ Merged = merged in cc);
             known = λ merged. absurd (let e : Ended ≡ Merged = merged in cc);
-            ended = λ ended. is.job.known at.at.1;
-            other = others_like w.plan (after_stage w.plan (came_of.End (Ok ended)) hops) refl refl w.plan.other is.job.other;
+            ended = λ ended. let k = is.job.known at.at.1 in record { other = k.other; alone = k.alone };
+            other = others_like w.plan (after_stage w.plan (came_of.End (Ok ended)) hops) refl refl begun.notes w.plan.other is.job.other;
             left = λ reason open_is. absurd (let e : Ended ≡ Open reason = open_is in cc);
             far = fars_like w.plan (after_stage w.plan (came_of.End (Ok ended)) hops) refl refl w.far is.job.far;
             none = λ none. absurd (has_job at.c w.plan.committed at.is at.at.0 none);
@@ -464,10 +472,10 @@ module _ {M : Type 0} (on : OnCluster M) where
             merged = λ merged. absurd (let e : Open why ≡ Merged = merged in cc);
             known = λ merged. absurd (let e : Open why ≡ Merged = merged in cc);
             ended = λ ended. absurd (let e : Open why ≡ Ended = ended in cc);
-            other = others_like w.plan (after_stage w.plan (came_of.End (Err (Scheduled why None))) hops) refl refl (written_there w.plan.other None)
-                (known_there w.plan.other None (IsWrittenThere on w.plan) is.job.other tt);
+            other = others_like w.plan (after_stage w.plan (came_of.End (Err (Scheduled why None))) hops) refl refl begun.notes (written_there w.plan.other None)
+                (known_there w.plan.other None (IsWrittenThere on begun.notes w.plan) is.job.other tt);
             left = λ reason open_is.
-                subst (IsLeftFor on (HasFailed begun after) w.far) (same_reason why reason open_is) (left_near on (HasFailed begun after) w.far why so);
+                subst (IsLeftFor on (HasFailedSince begun after) w.far) (same_reason why reason open_is) (left_near on (HasFailedSince begun after) w.far why so);
             far = fars_like w.plan (after_stage w.plan (came_of.End (Err (Scheduled why None))) hops) refl refl w.far is.job.far;
             none = λ none. absurd (has_job at.c w.plan.committed at.is at.at.0 none);
           });
@@ -483,7 +491,7 @@ module _ {M : Type 0} (on : OnCluster M) where
         → IsCommitRefused on (call_planned v.plan) v.seen (Rose before after) refusal → IsRefusedFor on begun after v refusal
     refusal_open v (refusal_is.Store (store.LinkFault count when)) none so =
         (since so.0, so.1 ∙ sym (ap (λ o. when_of (option_and_then (λ (c : Committed). c.wrote.entry) o)) none))
-    refusal_open v (refusal_is.Store (store.KeeperFault count)) none so = (so, none)
+    refusal_open v (refusal_is.Store (store.KeeperFault count)) none so = (none, so)
     refusal_open v (refusal_is.Store (store.TooOld cut position)) none so = (none, so)
     refusal_open v (refusal_is.Store (store.SeqReused position)) none so = (none, so)
     refusal_open v (refusal_is.Store (store.ShardFull serial)) none so = (none, so)
@@ -542,7 +550,7 @@ module _ {M : Type 0} (on : OnCluster M) where
               merged = λ merged. absurd (due_merged w.plan.job fresh.job merged);
               known = λ merged. absurd (due_merged w.plan.job fresh.job merged);
               ended = λ ended. absurd (due_ended w.plan.job fresh.job ended);
-              other = if_none w.plan.other (IsWrittenThere on v.plan) fresh.other;
+              other = if_none w.plan.other (IsWrittenThere on begun.notes v.plan) fresh.other;
               left = λ reason open_is. absurd (due_open w.plan.job reason fresh.job open_is);
               far = if_none w.far (λ view. IfSome (answered_job v.plan) (IsFarView on v.plan view)) fresh.far;
               none = λ none. fresh.job;
@@ -570,10 +578,10 @@ module _ {M : Type 0} (on : OnCluster M) where
             committed = if_none w.plan.committed (IsCommitOf on begun v) at.1;
             job = record {
               merged = is.job.merged;
-              known = is.job.known;
-              ended = is.job.ended;
-              other = others_like w.plan v.plan refl refl w.plan.other is.job.other;
-              left = λ reason open_is. left_later on (HasFailed begun before) (HasFailed begun after) w.far reason still (is.job.left reason open_is);
+              known = λ merged. let k = is.job.known merged in record { other = k.other; alone = k.alone };
+              ended = λ ended. let k = is.job.ended ended in record { other = k.other; alone = k.alone };
+              other = others_like w.plan v.plan refl refl begun.notes w.plan.other is.job.other;
+              left = λ reason open_is. left_later on (HasFailedSince begun before) (HasFailedSince begun after) w.far reason still (is.job.left reason open_is);
               far = fars_like w.plan v.plan refl refl w.far is.job.far;
               none = is.job.none;
             };
@@ -586,11 +594,11 @@ module _ {M : Type 0} (on : OnCluster M) where
   -- ---- stages, as the plan takes them
 
   -- so many carries
-  pub counted_steps : (begun : Begun) (faults hops first now : ℕ) (w v : OpenWrite) → hops ≡ now - first → StepsWrite on begun faults hops w v
+  pub counted_steps : (begun : Opening) (faults hops first now : ℕ) (w v : OpenWrite) → hops ≡ now - first → StepsWrite on begun faults hops w v
       → StepsWrite on begun faults (now - first) w v
   counted_steps begun faults hops first now w v is steps = subst (λ n. StepsWrite on begun faults n w v) is steps
 
-  pub commit_steps : (begun : Begun) (before after : ℕ) (w : OpenWrite) (seen : View) (came : Result CommitAnswer Reply) (hops : ℕ) (q : Writing)
+  pub commit_steps : (begun : Opening) (before after : ℕ) (w : OpenWrite) (seen : View) (came : Result CommitAnswer Reply) (hops : ℕ) (q : Writing)
       → IsWriteOf on begun before w → next_of w.plan ≡ stage.Commit → before ≤ after → Grows w.seen seen
       → IfOk came (IsAnswerOf on (call_planned w.plan) w.seen seen) → IfErr came (RefusesCommit on (call_planned w.plan) seen (Rose before after))
       → (stage.Commit ≡ next_of w.plan → q ≡ after_stage w.plan (came_of.Commit came) hops)
@@ -599,15 +607,15 @@ module _ {M : Type 0} (on : OnCluster M) where
       subst (λ (p : Writing). StepsWrite on begun after hops w (record { plan = p; seen = seen; done = w.done; far = w.far })) (sym (takes (sym next)))
       (commit_came begun before after w seen is le grows came hops next so fails)
 
-  pub inverse_steps : (begun : Begun) (before after : ℕ) (w : OpenWrite) (seen : View) (came : CameOfMerge) (hops : ℕ) (q : Writing) (ended far : Option View)
+  pub inverse_steps : (begun : Opening) (before after : ℕ) (w : OpenWrite) (seen : View) (came : CameOfMerge) (hops : ℕ) (q : Writing) (ended far : Option View)
       → IsWriteOf on begun before w → next_of w.plan ≡ stage.Inverse → before ≤ after → Grows w.seen seen
-      → IsMergeOf on w.plan (Rose before after) came → (stage.Inverse ≡ next_of w.plan → q ≡ after_stage w.plan (came_of.Inverse came.result) hops)
+      → IsMergeOf on begun.notes w.plan (Rose before after) came → (stage.Inverse ≡ next_of w.plan → q ≡ after_stage w.plan (came_of.Inverse came.result) hops)
       → ended ≡ came.done → far ≡ came.far → StepsWrite on begun after hops w (record { plan = q; seen = seen; done = ended; far = far })
   inverse_steps begun before after w seen came hops q ended far is next le grows so takes ended_is far_is =
       subst (λ (o : Option View). StepsWrite on begun after hops w (record { plan = q; seen = seen; done = ended; far = o })) (sym far_is)
       (subst (λ (o : Option View). StepsWrite on begun after hops w (record { plan = q; seen = seen; done = o; far = came.far })) (sym ended_is)
       (subst (λ (p : Writing). StepsWrite on begun after hops w (record { plan = p; seen = seen; done = came.done; far = came.far })) (sym (takes (sym next)))
-      (inverse_came begun before after w seen is le grows came.result came.done came.far hops next so.result so.done so.far)))
+      (inverse_came begun before after w seen is le grows came came.result hops next so.result so.far)))
 
   pub end_steps : (w : OpenWrite) (seen : View) (result : Result ⊤ LeftOpen) (q : Writing) (ended : Option View) → next_of w.plan ≡ stage.End
       → Grows w.seen seen → IfErr result (IsNotEnded on) → (stage.End ≡ next_of w.plan → q ≡ after_stage w.plan (came_of.End result) 0) → ended ≡ None
@@ -619,7 +627,7 @@ module _ {M : Type 0} (on : OnCluster M) where
         (end_came begun faults faults w seen is (omega arith) grows result 0 next so));
   }
 
-  pub relay_steps : (begun : Begun) (before after : ℕ) (w : OpenWrite) (came : Result ⊤ Reply) (hops : ℕ) (p q : Writing)
+  pub relay_steps : (begun : Opening) (before after : ℕ) (w : OpenWrite) (came : Result ⊤ Reply) (hops : ℕ) (p q : Writing)
       → IsWriteOf on begun before w → next_of w.plan ≡ stage.Relay → before ≤ after → p ≡ record w.plan { relay = None }
       → IfErr came (IsLinkRefusal (Rose before after) (when_of (answered_entry p)))
       → (stage.Relay ≡ next_of p → q ≡ after_stage p (came_of.Relay came) hops)
@@ -631,7 +639,7 @@ module _ {M : Type 0} (on : OnCluster M) where
       (relay_came begun before after w w.seen is le (grows-self w.seen) came hops next
       (subst (λ (x : Writing). IfErr came (IsLinkRefusal (Rose before after) (when_of (answered_entry x)))) p_is fails))
 
-  pub apply_steps : (begun : Begun) (before after : ℕ) (w : OpenWrite) (came : Result ⊤ Reply) (hops : ℕ) (p q : Writing)
+  pub apply_steps : (begun : Opening) (before after : ℕ) (w : OpenWrite) (came : Result ⊤ Reply) (hops : ℕ) (p q : Writing)
       → IsWriteOf on begun before w → next_of w.plan ≡ stage.Apply → before ≤ after → p ≡ record w.plan { spare = None }
       → IfErr came (IsLinkRefusal (Rose before after) (when_of (answered_entry p)))
       → (stage.Apply ≡ next_of p → q ≡ after_stage p (came_of.Apply came) hops)
@@ -645,7 +653,7 @@ module _ {M : Type 0} (on : OnCluster M) where
 
   -- ---- one after another
 
-  pub under_way_on : (begun : Begun) (call : AuthoredWrite) (old new : LinkShown) (w v : OpenWrite) → IsUnderWay on begun call old w
+  pub under_way_on : (begun : Opening) (call : AuthoredWrite) (old new : LinkShown) (w v : OpenWrite) → IsUnderWay on begun call old w
       → old.carries ≤ new.carries → StepsWrite on begun new.faults (new.carries - old.carries) w v → IsUnderWay on begun call new v
   under_way_on begun call old new w v under le steps = record {
     write = steps.write;
@@ -658,7 +666,7 @@ module _ {M : Type 0} (on : OnCluster M) where
   }
 
   -- a write that begins is under way
-  pub under_way_first : (begun : Begun) (link : LinkShown) (w : OpenWrite) → IsWriteOf on begun link.faults w → begun.carries ≡ link.carries
+  pub under_way_first : (begun : Opening) (link : LinkShown) (w : OpenWrite) → IsWriteOf on begun link.faults w → begun.carries ≡ link.carries
       → w.plan.hops ≡ 0 → IsUnderWay on begun (call_planned w.plan) link w
   under_way_first begun link w is carries hops = record {
     write = is;

@@ -1,9 +1,12 @@
 -- What the reply to a write says of what its session's pass has then seen.
-use Rattle.std.proofs.Common.{◌≡◌, ℕ, ◌≤◌, ◌<◌, ◌+◌, Bool, true, false, List, [], ◌∷◌, length, take, Option, Some, None, refl, ap, sym, subst}
-use Rattle.std.proofs.Common.{arith}
-use Rattle.std.proofs.lemmas.List.{length-take}
-use Rattle.std.specs.Prelude.{All, IfSome, slice_get, option_and_then, unwrap_or}
+use Rattle.std.proofs.Common.{◌≡◌, ℕ, zero, suc, ◌≤◌, ◌<◌, ◌+◌, Bool, true, false, List, [], ◌∷◌, length, min, take, Option, Some, None}
+use Rattle.std.proofs.Common.{refl, ap, sym, subst, ◌∙◌, arith}
+use Rattle.std.proofs.lemmas.List.{length-take, take_min}
+use Rattle.std.proofs.lemmas.Option.{get_or_from_slice_get}
+use Rattle.std.specs.Prelude.{All, IfSome, IsSomeAnd, slice_get, slice_index_or, slice_set, option_and_then, unwrap_or}
+use Rattle.core_model.proofs.Places.{set_get}
 use Rattle.core_model.specs.Asked.{AuthoredWrite}
+use Rattle.core_model.specs.Jobs.{far_shard}
 use Rattle.graph_model.proofs.Members.{All-from_in, All-in}
 use Rattle.graph_model.specs.Log.{entry_at}
 use Rattle.graph_model.specs.Records.{HasStamp}
@@ -11,18 +14,20 @@ use Rattle.graph_model.specs.Soundness.{EdgeUpdate}
 use Rattle.locked_nodes.proofs.Seeing.{one_some, some_and, some_parts}
 use Rattle.locked_nodes.specs.Begun.{Begun}
 use Rattle.locked_nodes.specs.Passes.{SeesNote}
-use Rattle.locked_writes.specs.Writes.{StandsOnce}
+use Rattle.locked_writes.specs.Writes.{MergesSince, StandsOnce}
 use Rattle.node_name.specs.declared.NodeName.{NodeName}
 use Rattle.replies.specs.declared.calls.InverseEnd.{InverseEnd}
 use Rattle.replies.specs.declared.calls.InverseEnd.TheVariants as inverse
 use Rattle.replies.specs.declared.calls.ScheduledWhy.{ScheduledWhy}
 use Rattle.replies.specs.declared.calls.WriteKind.{WriteKind}
-use Rattle.session_pass.specs.Passes.{SeenPass}
+use Rattle.session_pass.specs.Passes.{SeenPass, after_meeting}
 use Rattle.shard_log.proofs.Beginnings.{begins-length, longer_whole}
+use Rattle.shard_log.proofs.GrowthLemmas.{first_stay}
 use Rattle.shard_log.specs.View.{Grows, View, longer_view}
 use Rattle.shard_tables.specs.Written.{AnswersAs}
 use Rattle.shared_stores.specs.Asked.{asked_of_seen}
 use Rattle.shared_stores.specs.Making.{Making}
+use Rattle.tao_base.specs.EdgeTypes.{EdgeTypes}
 use Rattle.tao_base.specs.Ids.{shard_of}
 use Rattle.tao_base.specs.Writes.{write_kind, write_shard}
 use Rattle.tao_base.specs.declared.entry.Entry.{Entry}
@@ -31,13 +36,14 @@ use Rattle.tao_base.specs.declared.entry.Origin.{Origin}
 use Rattle.tao_base.specs.declared.entry.Touch.{Touch}
 use Rattle.tao_keeper.specs.declared.jobs.Job.{Job}
 use Rattle.tao_schema.specs.Schema.{types_of}
+use Rattle.write_model.specs.Merges.{job_of, merge_of}
 use Rattle.write_model.specs.Writes.{FitsWrite, next_entry, touches_of}
 use Rattle.write_plan.specs.Plans.{back_stage, inverse_said, job_stage, written_by}
 use Rattle.write_plan.specs.declared.progress.OtherEnd.{OtherEnd}
 use Rattle.write_plan.specs.declared.progress.OtherEnd.TheVariants.{Due, Merged, Ended, Open}
 use Rattle.write_plan.specs.declared.progress.WayBack.{WayBack}
 use Rattle.write_plan.specs.declared.stage.WriteStage.TheVariants.{Done}
-use Rattle.cluster_writes.specs.Replies.{HasSeen, HasSeenFull, HasSeenRecord, IsEntryOf, WritesIn}
+use Rattle.cluster_writes.specs.Replies.{HasSeen, HasSeenFull, HasSeenRecord, IsEntryOf, WritesIn, owed_job}
 
 -- ---- what is seen
 
@@ -48,21 +54,45 @@ seen_so pass shard from note P at grows is =
     some_and (λ (b : View). P b.entries) (slice_get pass.notes shard) (longer_view from note) at
     (subst P (sym (longer_whole from.entries note.entries grows.begins)) is)
 
+-- a pass that met a note which what it had seen begins has then seen just that
+unset : {X : Type 0} (xs : List X) (k : ℕ) (x : X) → slice_get xs k ≡ None → slice_get (slice_set xs k x) k ≡ None
+unset [] k x none = none
+unset (y ∷ ys) zero x none = absurd (let e : Some y ≡ None = none in cc)
+unset (y ∷ ys) (suc k) x none = unset ys k x none
+
+pub met_whole : (old new : List View) (far : ℕ) (note : View) → new ≡ after_meeting far note old → SeesNote far note new
+    → IfSome (slice_get old far) (λ own. Grows own note) → IsSomeAnd (slice_get new far) (λ v. v.entries ≡ note.entries)
+met_whole old new far note same sees since = by (slice_get old far) refl since
+  where
+    after : slice_get new far ≡ slice_get (after_meeting far note old) far
+    after = ap (λ (ns : List View). slice_get ns far) same
+
+    by : (o : Option View) → slice_get old far ≡ o → IfSome o (λ own. Grows own note) → IsSomeAnd (slice_get new far) (λ v. v.entries ≡ note.entries)
+    by None none since =
+        let now = some_parts (Grows note) (slice_get new far) sees in
+        absurd (let e : None ≡ Some now.0 = sym (after ∙ unset old far (longer_view (slice_index_or old far note) note) none) ∙ now.1 in cc)
+    by (Some own) at since =
+        let index : slice_index_or old far note ≡ own = get_or_from_slice_get old far own note at in
+        let set : slice_get new far ≡ Some (longer_view own note) =
+        after ∙ ap (λ (v : View). slice_get (slice_set old far (longer_view v note)) far) index ∙ set_get old far own (longer_view own note) at in
+        some_and (λ (v : View). v.entries ≡ note.entries) (slice_get new far) (longer_view own note) set
+        (longer_whole own.entries note.entries since.begins)
+
 -- what is so of the entry at its position in a note
 pub entry_so : (log : List Entry) (e : Entry) (P : Entry → Type 0) → entry_at log e.position ≡ Some e → P e → IfSome (entry_at log e.position) P
 entry_so log e P at is = subst (λ o. IfSome o P) (sym at) is
 
-module _ (pass : SeenPass) (far : ℕ) (note : View) (sees : SeesNote far note pass.notes) (us : List EdgeUpdate) (there : All (λ u. shard_of u.0 ≡ far) us) where
-  -- records that the note has, of its shard, were seen there
-  pub records_seen : All (HasStamp note.entries) us → All (HasSeenRecord pass) us
-  records_seen done = All-from_in (HasSeenRecord pass) us (λ u k.
-      let now = some_parts (Grows note) (slice_get pass.notes far) sees in
-      let stamp : HasStamp (take (length note.entries) now.0.entries) u =
-      subst (λ l. HasStamp l u) now.2.begins (All-in (HasStamp note.entries) us u done k) in
-      let here : HasSeen pass far (λ v. (n : ℕ) × HasStamp (take n v.entries) u) =
-      some_and (λ (v : View). (n : ℕ) × HasStamp (take n v.entries) u) (slice_get pass.notes far) now.0 now.1 (length note.entries, stamp) in
-      subst (λ s. HasSeen pass s (λ v. (n : ℕ) × HasStamp (take n v.entries) u)) (sym (All-in (λ (v : EdgeUpdate). shard_of v.0 ≡ far) us u there k)) here)
+-- records that a note has, which is all that was seen of their shard, were seen there
+pub records_seen : (pass : SeenPass) (far : ℕ) (note : View) (us : List EdgeUpdate) → IsSomeAnd (slice_get pass.notes far) (λ v. v.entries ≡ note.entries)
+    → All (λ u. shard_of u.0 ≡ far) us → All (HasStamp note.entries) us → All (HasSeenRecord pass) us
+records_seen pass far note us whole there done = All-from_in (HasSeenRecord pass) us (λ u k.
+    let now = some_parts (λ (v : View). v.entries ≡ note.entries) (slice_get pass.notes far) whole in
+    let here : HasSeen pass far (λ v. HasStamp v.entries u) =
+    some_and (λ (v : View). HasStamp v.entries u) (slice_get pass.notes far) now.0 now.1
+    (subst (λ l. HasStamp l u) (sym now.2) (All-in (HasStamp note.entries) us u done k)) in
+    subst (λ s. HasSeen pass s (λ v. HasStamp v.entries u)) (sym (All-in (λ (v : EdgeUpdate). shard_of v.0 ≡ far) us u there k)) here)
 
+module _ (pass : SeenPass) (far : ℕ) (note : View) (sees : SeesNote far note pass.notes) (us : List EdgeUpdate) (there : All (λ u. shard_of u.0 ≡ far) us) where
   -- where the note is full, so is what was seen of the shard's log
   pub full_seen : (m : Making) → m.settings.log_max ≤ length note.entries → All (HasSeenFull m pass) us
   full_seen m full = All-from_in (HasSeenFull m pass) us (λ u k.
@@ -71,6 +101,41 @@ module _ (pass : SeenPass) (far : ℕ) (note : View) (sees : SeesNote far note p
       let here : HasSeen pass far (λ v. m.settings.log_max ≤ length v.entries) =
       some_and (λ (v : View). m.settings.log_max ≤ length v.entries) (slice_get pass.notes far) now.0 now.1 (omega (arith, full, long)) in
       subst (λ s. HasSeen pass s (λ v. m.settings.log_max ≤ length v.entries)) (sym (All-in (λ (v : EdgeUpdate). shard_of v.0 ≡ far) us u there k)) here)
+
+-- ---- what was merged
+
+-- the job that an entry owes
+pub job_said : (types : EdgeTypes) (e : Entry) (job : Job) → job.position ≡ e.position → job.edges ≡ job_of types e → job ≡ owed_job types e
+job_said types e job position records =
+    let first : job ≡ record { position = e.position; edges = job.edges } = ap (λ (n : ℕ). record job { position = n }) position in
+    first ∙ ap (λ (us : List EdgeUpdate). record (owed_job types e) { edges = us }) records
+
+-- what there was to merge in what was seen, there was in what is seen later
+merges_grow : (from : ℕ) (job : Job) (seen : List Entry) (u v : View) (wrote : Option Entry) → length seen ≤ length u.entries → Grows u v
+    → MergesSince from job seen u.entries wrote → MergesSince from job seen v.entries wrote
+merges_grow from job seen u v wrote long grows is =
+    let n : ℕ = min is.n (length u.entries) in
+    let same : take n v.entries ≡ take is.n u.entries = first_stay u v n grows (omega arith) ∙ take_min is.n u.entries in
+    record {
+      n = n;
+      since = (let before = is.since in omega (arith, long, before));
+      entry_is = is.entry_is ∙ ap (λ (es : List Entry). merge_of es from job.position job.edges) (sym same);
+    }
+
+-- what there was to merge in a note, there was in what the pass has then seen
+pub merges_seen : (old new : SeenPass) (from : ℕ) (job : Job) (note : View) (wrote : Option Entry)
+    → HasSeen old (far_shard job) (λ own. MergesSince from job own.entries note.entries wrote)
+    → IfSome (slice_get old.notes (far_shard job)) (λ own. Grows own note) → SeesNote (far_shard job) note new.notes
+    → HasSeen old (far_shard job) (λ own. HasSeen new (far_shard job) (λ seen. MergesSince from job own.entries seen.entries wrote))
+merges_seen old new from job note wrote merges since sees =
+    let far = far_shard job in
+    let was = some_parts (λ (own : View). MergesSince from job own.entries note.entries wrote) (slice_get old.notes far) merges in
+    let now = some_parts (Grows note) (slice_get new.notes far) sees in
+    let grown : Grows was.0 note = subst (λ o. IfSome o (λ own. Grows own note)) was.1 since in
+    let long : length was.0.entries ≤ length note.entries = begins-length was.0.entries note.entries grown.begins in
+    some_and (λ (own : View). HasSeen new far (λ seen. MergesSince from job own.entries seen.entries wrote)) (slice_get old.notes far) was.0 was.1
+    (some_and (λ (seen : View). MergesSince from job was.0.entries seen.entries wrote) (slice_get new.notes far) now.0 now.1
+    (merges_grow from job was.0.entries note now.0 wrote long now.2 was.2))
 
 -- ---- what was written
 

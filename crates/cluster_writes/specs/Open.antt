@@ -1,5 +1,5 @@
 -- A write that is under way on a cluster.
-use Rattle.std.specs.Prelude.{ℕ, ◌≡◌, ◌≢◌, ◌≤◌, ◌<◌, ⊤, Bool, Option, None, Some, IfOk, IfSome, IsSome, IsSomeAnd, IsTrue, Result, Ok, Err, length}
+use Rattle.std.specs.Prelude.{ℕ, ◌≡◌, ◌≢◌, ◌≤◌, ◌<◌, ⊤, List, Option, None, Some, IfSome, IsSome, IsSomeAnd, IsTrue, Result, Ok, Err, length, slice_get}
 use Rattle.cluster_writes.specs.declared.merging.CameOfMerge.{CameOfMerge}
 use Rattle.cluster_writes.specs.declared.open.OpenWrite.{OpenWrite}
 use Rattle.core_model.specs.Asked.{AuthoredWrite, client_call}
@@ -9,26 +9,25 @@ use Rattle.graph_model.specs.Soundness.{is_client}
 use Rattle.graph_model.specs.Told.{WhereTold}
 use Rattle.hop_count.specs.Hops.{hops_after}
 use Rattle.locked_nodes.specs.Begun.{Begun, CountsHops, HasFailed}
-use Rattle.locked_writes.specs.Writes.{CommitsIn, MayFail, RefusesSeen, StaysOpenFor}
-use Rattle.log_names.specs.Names.{IsOfLog, LogNames}
+use Rattle.locked_nodes.specs.Cluster.{MayFail, OnCluster}
+use Rattle.locked_writes.specs.Writes.{CommitsIn, MergesSince, RefusesSeen, SeenWhereTold, StaysOpenFor}
+use Rattle.log_names.specs.Names.{IsOfLog}
 use Rattle.replies.specs.declared.calls.ScheduledWhy.{ScheduledWhy}
 use Rattle.replies.specs.declared.calls.ScheduledWhy.TheVariants as why
 use Rattle.replies.specs.declared.refusals.Refusal.{Refusal}
 use Rattle.replies.specs.declared.refusals.Refusal.TheVariants.{Store}
-use Rattle.replies.specs.declared.refusals.StoreRefused.TheVariants.{KeeperFault, LinkFault}
+use Rattle.replies.specs.declared.refusals.StoreRefused.TheVariants.{LinkFault}
 use Rattle.replies.specs.declared.refusals.When.{When}
 use Rattle.replies.specs.declared.refusals.When.TheVariants.{Before}
 use Rattle.replies.specs.declared.reply.Reply.{Reply}
 use Rattle.replies.specs.declared.reply.Reply.TheVariants.{Refused}
 use Rattle.shard_log.specs.View.{Grows, View}
-use Rattle.shard_tables.specs.Written.{LiesOn, StandsIn}
+use Rattle.shard_tables.specs.Written.{AskedWrite, LiesOn, StandsIn}
 use Rattle.shard_tables.specs.declared.writes.Wrote.{Wrote}
 use Rattle.shared_stores.specs.Asked.{asked_of_seen}
-use Rattle.shared_stores.specs.Making.{Making}
 use Rattle.shared_stores.specs.Owed.{IsDoneIn, IsOwedIn, owed_by}
 use Rattle.tao_base.specs.Writes.{ChangesType, write_shard}
 use Rattle.tao_base.specs.declared.entry.Entry.{Entry}
-use Rattle.tao_keeper.specs.KeeperState.{KeeperState}
 use Rattle.tao_keeper.specs.declared.jobs.Job.{Job}
 use Rattle.tao_link.specs.Shown.{LinkShown}
 use Rattle.tao_schema.specs.Schema.{types_of}
@@ -43,16 +42,24 @@ use Rattle.write_plan.specs.declared.results.LeftOpen.{LeftOpen}
 use Rattle.write_plan.specs.declared.results.LeftOpen.TheVariants as remains
 use Rattle.write_plan.specs.declared.results.LeftOpen.TheVariants.{Scheduled}
 
--- the cluster that a call is on: whether its keepers tell their tables, what each of them shows, what it was made with, and its logs' names
-pub record OnCluster (M : Type 0) : Type 0 where
-  pub tells : Bool
-  pub state : M → KeeperState
-  pub making : Making
-  pub log : LogNames
+-- what a write began with: what its pass had seen of the log of its shard, and of each shard's log, and the link's counts of carries and of faults
+pub record Opening : Type 0 where
+  pub seen : View
+  pub notes : List View
+  pub carries : ℕ
+  pub faults : ℕ
 
--- a cluster over keepers of that kind
-abbrev pub on_cluster : {M : Type 0} → Bool → (M → KeeperState) → Making → LogNames → OnCluster M
-on_cluster tells state making log = record { tells = tells; state = state; making = making; log = log }
+-- a write that begins so
+abbrev pub opening : View → List View → LinkShown → Opening
+opening seen notes link = record { seen = seen; notes = notes; carries = link.carries; faults = link.faults }
+
+-- how the call began
+abbrev pub begun_by : Opening → Begun
+begun_by begun = record { seen = begun.seen; carries = begun.carries; faults = begun.faults }
+
+-- the link has failed since the write began
+abbrev pub HasFailedSince : Opening → ℕ → Type 0
+HasFailedSince begun faults = HasFailed (begun_by begun) faults
 
 -- the write of a plan, under its origin
 abbrev pub call_planned : Writing → AuthoredWrite
@@ -70,7 +77,7 @@ pub record HasNotes (p : Writing) (c : Committed) : Type 0 where
   pub relay : p.refused ≡ None → p.back ≡ Ahead → IfSome c.passed (λ _. p.relay ≡ Some c.wrote.note)
 
 -- what the commit answered: the write has seen it, and has its notes
-pub record IsCommitOf {M : Type 0} (on : OnCluster M) (begun : Begun) (w : OpenWrite) (c : Committed) : Type 0 where
+pub record IsCommitOf {M : Type 0} (on : OnCluster M) (begun : Opening) (w : OpenWrite) (c : Committed) : Type 0 where
   pub commits : CommitsIn on.tells on.making on.log (call_planned w.plan) begun.seen c.wrote
   pub sees : Grows c.wrote.note w.seen
   pub kind : kind_said w.plan.write c.wrote.entry ≡ Some c.kind
@@ -98,25 +105,34 @@ pub record IsFarView {M : Type 0} (on : OnCluster M) (p : Writing) (view : View)
   pub log_is : IsOfLog on.log (far_shard job) view
   pub told_is : view.log.told ≡ on.tells
 
--- what was written where the job is owed has seen the job done, and its entry stands there
-pub record IsWrittenThere {M : Type 0} (on : OnCluster M) (p : Writing) (wrote : Wrote) : Type 0 where
+-- what was written where the job is owed has seen the job done, and what the pass had seen there; its entry stands there, and is what there was to merge
+pub record IsWrittenThere {M : Type 0} (on : OnCluster M) (notes : List View) (p : Writing) (wrote : Wrote) : Type 0 where
   pub done : IsDoneThere on p wrote.note
   pub far : IfSome (answered_job p) (IsFarView on p wrote.note)
+  pub since : IfSome (answered_job p) (λ job. IfSome (slice_get notes (far_shard job)) (λ own. Grows own wrote.note))
   pub stands : IfSome wrote.entry (StandsIn wrote.note)
   pub lies : IfSome (answered_job p) (λ job. IfSome wrote.entry (LiesOn wrote.note (far_shard job)))
+  pub answers : IsSome (answered_entry p)
+  pub merges : WhereTold on.tells (IfSome (answered_job p) (λ job. IsSomeAnd (slice_get notes (far_shard job))
+      (λ own. MergesSince (write_shard p.write) job own.entries wrote.note.entries wrote.entry)))
 
 -- why the job of a write stays open, where the link may have failed, and this was seen of the log where it is owed
 abbrev pub IsLeftFor : {M : Type 0} → OnCluster M → Type 0 → Option View → ScheduledWhy → Type 0
 IsLeftFor on failed far why.LinkFault = failed
 IsLeftFor on failed far other = StaysOpenFor (MayFail on.state) on.making.settings.log_max far other
 
+-- what was written where the job is owed is known, and the note of that is all that was seen there
+pub record KnowsThere (w : OpenWrite) : Type 0 where
+  pub other : IsSome w.plan.other
+  pub alone : w.far ≡ None
+
 -- how far the job of a write has come
-pub record KnowsJob {M : Type 0} (on : OnCluster M) (begun : Begun) (faults : ℕ) (w : OpenWrite) : Type 0 where
+pub record KnowsJob {M : Type 0} (on : OnCluster M) (begun : Opening) (faults : ℕ) (w : OpenWrite) : Type 0 where
   pub merged : w.plan.job ≡ Merged → IsSomeAnd w.done (IsDoneThere on w.plan)
-  pub known : w.plan.job ≡ Merged → IsSome w.plan.other
-  pub ended : w.plan.job ≡ Ended → IsSome w.plan.other
-  pub other : IfSome w.plan.other (IsWrittenThere on w.plan)
-  pub left : (reason : ScheduledWhy) → w.plan.job ≡ Open reason → IsLeftFor on (HasFailed begun faults) w.far reason
+  pub known : w.plan.job ≡ Merged → KnowsThere w
+  pub ended : w.plan.job ≡ Ended → KnowsThere w
+  pub other : IfSome w.plan.other (IsWrittenThere on begun.notes w.plan)
+  pub left : (reason : ScheduledWhy) → w.plan.job ≡ Open reason → IsLeftFor on (HasFailedSince begun faults) w.far reason
   pub far : IfSome w.far (λ view. IfSome (answered_job w.plan) (IsFarView on w.plan view))
   pub none : answered_job w.plan ≡ None → w.plan.job ≡ Due
 
@@ -128,23 +144,26 @@ pub record IsFresh (w : OpenWrite) : Type 0 where
 
 -- ---- how it is refused
 
--- why a write is refused: the link failed, before its commit or after, when its entry stands; or, before its commit, its store refused it, by what was seen
--- of the log, or there was no memory
-abbrev pub IsRefusedFor : {M : Type 0} → OnCluster M → Begun → ℕ → OpenWrite → Refusal → Type 0
-IsRefusedFor on begun faults w (Store (LinkFault count when)) = HasFailed begun faults × (when ≡ when_of (answered_entry w.plan))
-IsRefusedFor on begun faults w (Store (KeeperFault count)) = MayFail on.state × (w.plan.committed ≡ None)
-IsRefusedFor on begun faults w refusal = (w.plan.committed ≡ None)
-    × WhereTold on.tells (RefusesSeen (asked_of_seen on.making (write_shard w.plan.write) w.seen.entries (call_planned w.plan)) refusal)
+-- what was seen of a write's log says so of the write, where that log is told
+abbrev pub SeenIn : {M : Type 0} → OnCluster M → AuthoredWrite → View → (AskedWrite → Type 0) → Type 0
+SeenIn on call seen = SeenWhereTold on.tells (asked_of_seen on.making (write_shard call.write) seen.entries call)
+
+-- why a write is refused: the link failed, before its commit or after, when its entry stands; or it isn't committed, by what was seen of the log, since
+-- keepers may fail, or for want of memory
+abbrev pub IsRefusedFor : {M : Type 0} → OnCluster M → Opening → ℕ → OpenWrite → Refusal → Type 0
+IsRefusedFor on begun faults w (Store (LinkFault count when)) = HasFailedSince begun faults × (when ≡ when_of (answered_entry w.plan))
+IsRefusedFor on begun faults w refusal =
+    (w.plan.committed ≡ None) × RefusesSeen (SeenIn on (call_planned w.plan) w.seen) (MayFail on.state) refusal
 
 -- the reply refuses the write, for such a cause
-abbrev pub RefusesOpen : {M : Type 0} → OnCluster M → Begun → ℕ → OpenWrite → Reply → Type 0
+abbrev pub RefusesOpen : {M : Type 0} → OnCluster M → Opening → ℕ → OpenWrite → Reply → Type 0
 RefusesOpen on begun faults w (Refused refusal) = IsRefusedFor on begun faults w refusal
 RefusesOpen on begun faults w other = ⊥
 
 -- ---- on its way
 
 -- a write on its way, with a note of its shard's log that has seen what its pass had, and all that its stages have; the link has failed so often
-pub record IsWriteOf {M : Type 0} (on : OnCluster M) (begun : Begun) (faults : ℕ) (w : OpenWrite) : Type 0 where
+pub record IsWriteOf {M : Type 0} (on : OnCluster M) (begun : Opening) (faults : ℕ) (w : OpenWrite) : Type 0 where
   pub home : w.plan.region < length on.making.settings.regions
   pub here : write_shard w.plan.write < on.making.settings.shards
   pub follower : IsFollowerFor on.making.settings (write_shard w.plan.write) w.plan.follower
@@ -159,20 +178,20 @@ pub record IsWriteOf {M : Type 0} (on : OnCluster M) (begun : Begun) (faults : �
   pub refused : IfSome w.plan.refused (RefusesOpen on begun faults w)
 
 -- a stage of a write, with so many carries, after which it is still on its way, and asks the same; the link has then failed so often
-pub record StepsWrite {M : Type 0} (on : OnCluster M) (begun : Begun) (faults more : ℕ) (w v : OpenWrite) : Type 0 where
+pub record StepsWrite {M : Type 0} (on : OnCluster M) (begun : Opening) (faults more : ℕ) (w v : OpenWrite) : Type 0 where
   pub write : IsWriteOf on begun faults v
   pub same : call_planned v.plan ≡ call_planned w.plan
   pub hops : v.plan.hops ≡ hops_after w.plan.hops more
 
 -- a stage of a write without a carry, whenever that began, and however often the link has failed
 pub record StepsAtOnce {M : Type 0} (on : OnCluster M) (w v : OpenWrite) : Type 0 where
-  pub steps : (begun : Begun) (faults : ℕ) → IsWriteOf on begun faults w → StepsWrite on begun faults 0 w v
+  pub steps : (begun : Opening) (faults : ℕ) → IsWriteOf on begun faults w → StepsWrite on begun faults 0 w v
 
 -- a write on its way that asks this, with the carries of all its stages
-pub record IsUnderWay {M : Type 0} (on : OnCluster M) (begun : Begun) (call : AuthoredWrite) (link : LinkShown) (w : OpenWrite) : Type 0 where
+pub record IsUnderWay {M : Type 0} (on : OnCluster M) (begun : Opening) (call : AuthoredWrite) (link : LinkShown) (w : OpenWrite) : Type 0 where
   pub write : IsWriteOf on begun link.faults w
   pub same : call_planned w.plan ≡ call
-  pub hops : CountsHops begun link.carries w.plan.hops
+  pub hops : CountsHops (begun_by begun) link.carries w.plan.hops
 
 -- ---- what comes of its stages
 
@@ -190,25 +209,23 @@ pub record IsAnswerOf {M : Type 0} (on : OnCluster M) (call : AuthoredWrite) (fr
 -- why a commit is refused, where the link may have failed, and this was then seen of the log
 abbrev pub IsCommitRefused : {M : Type 0} → OnCluster M → AuthoredWrite → View → Type 0 → Refusal → Type 0
 IsCommitRefused on call seen failed (Store (LinkFault count when)) = failed × (when ≡ Before)
-IsCommitRefused on call seen failed (Store (KeeperFault count)) = MayFail on.state
-IsCommitRefused on call seen failed refusal =
-    WhereTold on.tells (RefusesSeen (asked_of_seen on.making (write_shard call.write) seen.entries call) refusal)
+IsCommitRefused on call seen failed refusal = RefusesSeen (SeenIn on call seen) (MayFail on.state) refusal
 
 -- the reply refuses a commit, for such a cause
 abbrev pub RefusesCommit : {M : Type 0} → OnCluster M → AuthoredWrite → View → Type 0 → Reply → Type 0
 RefusesCommit on call seen failed (Refused refusal) = IsCommitRefused on call seen failed refusal
 RefusesCommit on call seen failed other = ⊥
 
--- what a merge comes to: what it wrote where the job is owed, or why the job stays open, where the link may have failed, and this was seen of the log there
-abbrev pub MergesSo : {M : Type 0} → OnCluster M → Writing → Type 0 → Option View → Result Wrote LeftOpen → Type 0
-MergesSo on p failed far (Ok wrote) = IsWrittenThere on p wrote
-MergesSo on p failed far (Err (Scheduled reason wrote)) = IsLeftFor on failed far reason × IfSome wrote (IsWrittenThere on p)
-MergesSo on p failed far (Err (remains.Refused reply)) = ⊥
+-- what a merge comes to, where the pass had seen this of each shard's log: what it wrote where the job is owed, or why the job stays open, where the link
+-- may have failed
+abbrev pub MergesSo : {M : Type 0} → OnCluster M → List View → Writing → Type 0 → CameOfMerge → Result Wrote LeftOpen → Type 0
+MergesSo on notes p failed came (Ok wrote) = IsWrittenThere on notes p wrote × IsSomeAnd came.done (IsDoneThere on p) × (came.far ≡ None)
+MergesSo on notes p failed came (Err (Scheduled reason wrote)) = IsLeftFor on failed came.far reason × IfSome wrote (IsWrittenThere on notes p)
+MergesSo on notes p failed came (Err (remains.Refused reply)) = ⊥
 
 -- what came of a merge, with notes of the log where the job is owed
-pub record IsMergeOf {M : Type 0} (on : OnCluster M) (p : Writing) (failed : Type 0) (came : CameOfMerge) : Type 0 where
-  pub result : MergesSo on p failed came.far came.result
-  pub done : IfOk came.result (λ _. IsSomeAnd came.done (IsDoneThere on p))
+pub record IsMergeOf {M : Type 0} (on : OnCluster M) (notes : List View) (p : Writing) (failed : Type 0) (came : CameOfMerge) : Type 0 where
+  pub result : MergesSo on notes p failed came came.result
   pub far : IfSome came.far (λ view. IfSome (answered_job p) (IsFarView on p view))
 
 -- why a job isn't ended

@@ -1,10 +1,10 @@
 //! The stage `commit`.
 ghost use Rattle.std.specs.Prelude.{◌≡◌, ◌≤◌, ◌<◌, ◌-◌, IfErr, IfOk, IfSome, IsTrue, OnErr, Some, length};
-ghost use Rattle.cluster_writes.specs.Open.{IsAnswerOf, IsWriteOf, RefusesCommit, StepsWrite, call_planned, on_cluster};
+ghost use Rattle.cluster_writes.specs.Open.{IsAnswerOf, IsWriteOf, Opening, RefusesCommit, StepsWrite, call_planned};
 ghost use Rattle.core_model.specs.Serving.{IsLeaderFor};
 ghost use Rattle.counts.specs.Count.{Rose};
 ghost use Rattle.graph_model.specs.Soundness.{is_client};
-ghost use Rattle.locked_nodes.specs.Begun.{Begun};
+ghost use Rattle.locked_nodes.specs.Cluster.{on_cluster};
 ghost use Rattle.log_names.specs.Names.{IsOfLog};
 ghost use Rattle.shard_log.specs.View.{Grows};
 ghost use Rattle.shard_tables.specs.Written.{HasEntry, LiesOn, StandsIn};
@@ -17,8 +17,8 @@ ghost use Rattle.write_plan.specs.declared.stage.WriteStage.TheVariants as stage
 
 use crate::open::OpenWrite;
 use core_model::{AuthoredWrite, masters_are_regions};
-use core_nodes::master_store;
 use locked_nodes::LockedNodes;
+use locked_nodes::core_nodes::master_store;
 use locked_writes::{CommitPlace, CommittedThere, commit, notify};
 use node_name::NodeName;
 use replies::{Reply, When};
@@ -198,7 +198,7 @@ pub(crate) fn commit_stage<K: Keeper, J: Sharing, R: Wait, L: Link>(
     link: &mut L,
     write: &mut OpenWrite,
 )
-    ghost begun: { Begun }
+    ghost begun: { Opening }
     requires write { IsWriteOf (on_cluster K.TELLS K.state J.making J.log) begun (L.shown link.old).faults write.old }
     requires stage { next_of write.old.plan ≡ stage.Commit }
     ensures steps { StepsWrite (on_cluster K.TELLS K.state J.making J.log) begun (L.shown link.new).faults

@@ -1,7 +1,7 @@
 //! What a session learns of its write.
-ghost use Rattle.std.specs.Prelude.{◌≡◌, ◌≤◌, ◌<◌, IfSome};
+ghost use Rattle.std.specs.Prelude.{◌≡◌, ◌≤◌, ◌<◌, IfSome, Some};
 ghost use Rattle.std.specs.Option.{option_map};
-ghost use Rattle.cluster_writes.specs.Learning.{LearnsOf, LearnsOther, SeesThere};
+ghost use Rattle.cluster_writes.specs.Learning.{LearnsOf, LearnsOther, LearnsThere, SeesThere};
 ghost use Rattle.cluster_writes.specs.Learning.{carries_out, committed_entry, committed_view, if_apart, if_told, other_shard};
 ghost use Rattle.locked_nodes.specs.Passes.{IsPassOf};
 ghost use Rattle.log_names.specs.Names.{IsOfLog};
@@ -142,7 +142,8 @@ fn learn_there<J: Sharing>(pass: &mut Pass, shard: u16, wrote: Option<Wrote>, to
     requires room { 8 ≤ pass.old.spare }
     requires log { IfSome wrote (λ w. IsOfLog J.log shard w.note) }
     requires stands { IfSome wrote (λ w. IfSome w.entry (StandsIn w.note)) }
-    ensures { SeesThere J.making J.log shard (option_map (λ (w : WroteThere). w.note) wrote) pass.old pass.new }
+    ensures sees { SeesThere J.making J.log shard (option_map (λ (w : WroteThere). w.note) wrote) pass.old pass.new }
+    ensures learns { LearnsThere told (Some shard) wrote pass.old.floors pass.new.floors }
 {
     match wrote {
         Some(wrote) => learn_wrote::<J>(pass, shard, wrote, told),
@@ -155,7 +156,8 @@ fn see_there<J: Sharing>(pass: &mut Pass, shard: u16, seen: Option<Note>)
     requires pass { IsPassOf J.making J.log pass.old }
     requires here { shard < J.making.settings.shards }
     requires log { IfSome seen (IsOfLog J.log shard) }
-    ensures { SeesThere J.making J.log shard seen pass.old pass.new }
+    ensures sees { SeesThere J.making J.log shard seen pass.old pass.new }
+    ensures nothing { pass.new.floors ≡ pass.old.floors }
 {
     match seen {
         Some(note) => pass.see(shard, note),
@@ -178,7 +180,7 @@ pub(crate) fn learn_other<J: Sharing>(
     requires log { IfSome shard (λ k. IfSome wrote (λ w. IsOfLog J.log k w.note)) }
     requires stands { IfSome wrote (λ w. IfSome w.entry (StandsIn w.note)) }
     requires seen { IfSome shard (λ k. IfSome seen (IsOfLog J.log k)) }
-    ensures { LearnsOther J.making J.log shard wrote seen pass.old pass.new }
+    ensures { LearnsOther J.making J.log told shard wrote seen pass.old pass.new }
 {
     match shard {
         Some(shard) => {

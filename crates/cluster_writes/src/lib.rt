@@ -5,8 +5,9 @@
 //!
 //! What it promises. An acknowledged write's entry stands in what the session's pass has then seen of the shard's log, once under its origin, and fits the
 //! write; a new one stands past what the pass had seen before. Where nothing was changed, there was nothing to change at a beginning of that log which what
-//! the pass had seen before begins. Where a new entry's inverse is said to be written, the pass has seen it there. A refusal, and an inverse that is only
-//! scheduled, have their cause. The session learns what the entry touches. The hops are the carries that the link counted.
+//! the pass had seen before begins. Where a new entry's inverse is said to be written, what the pass has then seen of the other shard has it, or a later
+//! record. A refusal, and an inverse that is only scheduled, have their cause; no other refusal comes, and never one for want of a server. The session learns
+//! what the entry touches and what was merged at its other end, and nothing else: of a refusal nothing. The hops are the carries that the link counted.
 //!
 //! The contracts that say so: `write`.
 #![tactic(auto)]

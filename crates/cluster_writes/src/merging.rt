@@ -1,10 +1,12 @@
 //! The stages `inverse` and `end`: the other end of a write.
 ghost use Rattle.std.specs.Prelude.{◌≡◌, ◌≤◌, ◌<◌, ◌-◌, IfErr, IfOk, IfSome, IsSome, IsSomeAnd, MatchResult, None, OnErr, Some, Ok, Err};
-ghost use Rattle.cluster_writes.specs.Open.{IsDoneThere, IsMergeOf, IsNotEnded, IsWriteOf, OwesIn, StepsAtOnce, StepsWrite, on_cluster};
+ghost use Rattle.cluster_writes.specs.Open.{IsDoneThere, IsMergeOf, IsNotEnded, IsWriteOf, Opening, OwesIn, StepsAtOnce, StepsWrite};
 ghost use Rattle.core_model.specs.Serving.{IsLeaderFor};
 ghost use Rattle.counts.specs.Count.{Rose};
-ghost use Rattle.locked_nodes.specs.Begun.{Begun};
-ghost use Rattle.locked_writes.specs.Writes.{MayFail, StaysOpenFor};
+ghost use Rattle.graph_model.specs.Told.{WhereTold};
+ghost use Rattle.locked_nodes.specs.Cluster.{MayFail, on_cluster};
+ghost use Rattle.locked_nodes.specs.Passes.{IsPassOf};
+ghost use Rattle.locked_writes.specs.Writes.{MergesSince, StaysOpenFor};
 ghost use Rattle.log_names.specs.Names.{IsOfLog};
 ghost use Rattle.replies.specs.declared.calls.ScheduledWhy.TheVariants.{LinkFault};
 ghost use Rattle.shard_log.specs.View.{Grows};
@@ -18,14 +20,15 @@ ghost use Rattle.write_plan.specs.declared.stage.WriteStage.TheVariants as stage
 
 use crate::open::{OpenWrite, owed_of};
 use core_model::masters_are_regions;
-use core_nodes::master_store;
 use locked_nodes::LockedNodes;
+use locked_nodes::core_nodes::master_store;
+use locked_nodes::shared_nodes::SharedMerge;
 use locked_writes::{MergePlace, NotMerged, end, merge, notify};
 use node_name::NodeName;
 use replies::ScheduledWhy;
+use session_pass::Pass;
 use shard_log::Note;
 use shard_tables::Wrote;
-use shared_nodes::SharedMerge;
 use shared_stores::{CountedNote, OwedJob, Sharing};
 use std::sync::Wait;
 use tao_keeper::Keeper;
@@ -111,11 +114,16 @@ fn merge_there<K: Keeper, J: Sharing, R: Wait>(
     leader: NodeName,
     owed: &OwedJob<'_>,
     seen: &mut Note,
+    there: Note,
 ) -> Result<SharedMerge, NotMerged>
     requires there { owed.now.to < J.making.settings.shards }
     requires leader { IsLeaderFor J.making.settings owed.now.to leader }
     requires owed { IsOwedIn K.TELLS J.making J.log seen.old (lent_owed owed.now) }
+    requires log { IsOfLog J.log owed.now.to there }
     ensures grows { Grows seen.old seen.new }
+    ensures since { IfOk result (λ merge. Grows there merge.wrote.note) }
+    ensures writes { IfOk result (λ merge. WhereTold K.TELLS
+        (MergesSince owed.now.from owed.now.job.now there.entries merge.wrote.note.entries merge.wrote.entry)) }
     ensures merged { IfOk result (λ merge. IsDoneIn J.making J.log merge.done (lent_owed owed.now)) }
     ensures note { IfOk result (λ merge. merge.wrote.note ≡ merge.done) }
     ensures stands { IfOk result (λ merge. IfSome merge.wrote.entry (StandsIn merge.wrote.note)) }
@@ -130,7 +138,7 @@ fn merge_there<K: Keeper, J: Sharing, R: Wait>(
         near: master_store(nodes.config(), owed.from),
         far: master_store(nodes.config(), owed.to),
     };
-    match merge(nodes, rt, place, owed, seen) {
+    match merge(nodes, rt, place, owed, seen, there) {
         Ok(merged) => {
             let mut merge = merged;
             notify_merged(nodes, rt, owed.to, &mut merge.wrote);
@@ -149,30 +157,39 @@ fn leader_of<K: Keeper, J: Sharing>(nodes: &LockedNodes<'_, K, J>, shard: u16) -
     nodes.leader_for(master_store(nodes.config(), shard).region, shard)
 }
 
-/// Merges a job where it is owed, over the link between the leader that committed its entry and the one that merges it.
+/// Merges a job where it is owed, over the link between the leader that committed its entry and the one that merges it. What is written there begins with
+/// what the pass had seen of the log there.
 fn merge_over<K: Keeper, J: Sharing, R: Wait, L: Link>(
     nodes: &LockedNodes<'_, K, J>,
     rt: &R,
+    pass: &mut Pass,
     link: &mut L,
     plan: &WritePlan,
     seen: &mut Note,
 ) -> CameOfMerge
+    requires pass { IsPassOf J.making J.log pass.old }
     requires committed { IsSome plan.now.committed }
     requires owes { OwesIn (on_cluster K.TELLS K.state J.making J.log) plan.now seen.old }
     ensures carries { (L.shown link.old).carries ≤ (L.shown link.new).carries }
     ensures later { (L.shown link.old).faults ≤ (L.shown link.new).faults }
     ensures grows { Grows seen.old seen.new }
-    ensures merge { IsMergeOf (on_cluster K.TELLS K.state J.making J.log) plan.now (Rose (L.shown link.old).faults (L.shown link.new).faults) result }
+    ensures merge { IsMergeOf (on_cluster K.TELLS K.state J.making J.log) pass.old.notes plan.now
+        (Rose (L.shown link.old).faults (L.shown link.new).faults) result }
+    ensures pass { pass.new ≡ pass.old }
 {
     let Some(owed) = owed_of(nodes.config(), plan) else {
+        return left_for(ScheduledWhy::Memory, None);
+    };
+    let Ok(there) = pass.note(owed.to) else {
         return left_for(ScheduledWhy::Memory, None);
     };
     let sender = committer(plan);
     let leader = leader_of(nodes, owed.to);
     if let Err(LinkFailed) = carry_between(link, sender, leader) {
+        drop(there);
         return left_for(ScheduledWhy::LinkFault, None);
     }
-    let merged = merge_there(nodes, rt, leader, &owed, seen);
+    let merged = merge_there(nodes, rt, leader, &owed, seen, there);
     let back = carry_between(link, leader, sender);
     match merged {
         Ok(merge) => answered(merge, back),
@@ -184,20 +201,25 @@ fn merge_over<K: Keeper, J: Sharing, R: Wait, L: Link>(
 pub(crate) fn inverse_stage<K: Keeper, J: Sharing, R: Wait, L: Link>(
     nodes: &LockedNodes<'_, K, J>,
     rt: &R,
+    pass: &mut Pass,
     link: &mut L,
     write: &mut OpenWrite,
 )
-    ghost begun: { Begun }
+    ghost begun: { Opening }
+    requires pass { IsPassOf J.making J.log pass.old }
+    requires notes { pass.old.notes ≡ begun.notes }
     requires write { IsWriteOf (on_cluster K.TELLS K.state J.making J.log) begun (L.shown link.old).faults write.old }
     requires stage { next_of write.old.plan ≡ stage.Inverse }
     ensures steps { StepsWrite (on_cluster K.TELLS K.state J.making J.log) begun (L.shown link.new).faults
         ((L.shown link.new).carries - (L.shown link.old).carries) write.old write.new }
+    ensures pass { pass.new ≡ pass.old }
     ensures later { (L.shown link.old).carries ≤ (L.shown link.new).carries }
 {
     let carries = link.carries();
     let CameOfMerge { result, done, far } = merge_over(
         nodes,
         rt,
+        pass,
         link,
         &write.plan,
         &mut write.seen,

@@ -1,9 +1,9 @@
 //! The stages `relay` and `apply`: the way back of a write, to the leader that it passed and then to its follower.
 ghost use Rattle.std.specs.Prelude.{◌≡◌, ◌≤◌, ◌-◌, IfErr, IfSome, IsSome};
-ghost use Rattle.cluster_writes.specs.Open.{IsLinkRefusal, IsWayNote, IsWriteOf, StepsWrite, on_cluster};
+ghost use Rattle.cluster_writes.specs.Open.{IsLinkRefusal, IsWayNote, IsWriteOf, Opening, StepsWrite};
 ghost use Rattle.core_model.specs.Serving.{IsFollowerFor, IsLeaderFor};
 ghost use Rattle.counts.specs.Count.{Rose};
-ghost use Rattle.locked_nodes.specs.Begun.{Begun};
+ghost use Rattle.locked_nodes.specs.Cluster.{on_cluster};
 ghost use Rattle.tao_base.specs.Writes.{write_shard};
 ghost use Rattle.write_plan.specs.Plans.{answered_entry, answered_passed, next_of, when_of};
 ghost use Rattle.write_plan.specs.declared.stage.WriteStage.TheVariants as stage;
@@ -135,7 +135,7 @@ pub(crate) fn relay_stage<K: Keeper, J: Sharing, R: Wait, L: Link>(
     link: &mut L,
     write: &mut OpenWrite,
 )
-    ghost begun: { Begun }
+    ghost begun: { Opening }
     requires write { IsWriteOf (on_cluster K.TELLS K.state J.making J.log) begun (L.shown link.old).faults write.old }
     requires stage { next_of write.old.plan ≡ stage.Relay }
     ensures steps { StepsWrite (on_cluster K.TELLS K.state J.making J.log) begun (L.shown link.new).faults
@@ -156,7 +156,7 @@ pub(crate) fn apply_stage<K: Keeper, J: Sharing, R: Wait, L: Link>(
     link: &mut L,
     write: &mut OpenWrite,
 )
-    ghost begun: { Begun }
+    ghost begun: { Opening }
     requires write { IsWriteOf (on_cluster K.TELLS K.state J.making J.log) begun (L.shown link.old).faults write.old }
     requires stage { next_of write.old.plan ≡ stage.Apply }
     ensures steps { StepsWrite (on_cluster K.TELLS K.state J.making J.log) begun (L.shown link.new).faults

@@ -1,10 +1,10 @@
 //! The writes of sessions.
-ghost use Rattle.std.specs.Prelude.{◌≡◌, ◌≤◌, ◌<◌, IfSome, Some, slice_get};
+ghost use Rattle.std.specs.Prelude.{◌≡◌, ◌≤◌, ◌<◌, Some, slice_get};
 ghost use Rattle.cluster_writes.specs.Learning.{IsBegunWrite};
-ghost use Rattle.cluster_writes.specs.Open.{on_cluster};
 ghost use Rattle.cluster_writes.specs.Replies.{EndsWrite, HasEnded, RepliesToWrite};
 ghost use Rattle.core_model.specs.Asked.{client_call};
 ghost use Rattle.locked_nodes.specs.Begun.{begun};
+ghost use Rattle.locked_nodes.specs.Cluster.{on_cluster};
 ghost use Rattle.locked_nodes.specs.Passes.{IsPassOf, PassGoesOn};
 ghost use Rattle.shard_log.specs.View.{View};
 ghost use Rattle.tao_base.specs.Writes.{ChangesType, write_shard};
@@ -15,7 +15,7 @@ use crate::learning::{is_carried_out, learn_committed, learn_other, shard_of_oth
 use crate::open::OpenWrite;
 use crate::running::run_write;
 use locked_nodes::{LockedNodes, prepare};
-use replies::{NodeRefused, Refusal, Reply};
+use replies::Reply;
 use request_check::CheckedWrite;
 use session_pass::Pass;
 use shared_stores::Sharing;
@@ -25,25 +25,19 @@ use tao_keeper::Keeper;
 use tao_link::Link;
 use write_plan::{EndedWrite, WritePlan};
 
-/// No follower of the region can be chosen.
-fn no_follower(region: u16) -> Reply
-    ensures { result ≡ Reply.Refused (Refusal.Node (NodeRefused.NoServer region)) }
-{
-    Reply::Refused(Refusal::Node(NodeRefused::NoServer { region }))
-}
-
-/// A write of a session that is begun. None where no follower can be chosen. Takes no memory.
+/// A write of a session that is begun. Takes no memory.
 fn begin_write<K: Keeper, J: Sharing>(
     nodes: &LockedNodes<'_, K, J>,
     pass: &Pass,
     call: CheckedWrite,
-) -> Option<WritePlan>
+) -> WritePlan
+    requires pass { IsPassOf J.making J.log pass.now }
     requires here { write_shard call.write < J.making.settings.shards }
-    ensures { IfSome result (IsBegunWrite J.making pass.now (client_call (Client call.session call.seq) call.write)) }
+    ensures { IsBegunWrite J.making pass.now (client_call (Client call.session call.seq) call.write) result }
 {
-    let follower = nodes.follower_for(pass.region(), pass.tier(), call.write.shard())?;
+    let follower = nodes.follower_for(pass.region(), pass.tier(), call.write.shard());
     let origin = call.origin();
-    Some(WritePlan::begin(call.write, origin, pass.region(), pass.tier(), follower))
+    WritePlan::begin(call.write, origin, pass.region(), pass.tier(), follower)
 }
 
 /// The reply of a write that has ended. Its session learns what that says was written, and its pass sees what the stages have.
@@ -82,8 +76,9 @@ fn end_write<K: Keeper, J: Sharing>(
 ///
 /// Where it is acknowledged, its entry stands in what the pass has then seen of the shard's log, once under its origin, and fits the write; a new one stands
 /// past what the pass had seen before. Where nothing was changed, there was nothing to change at a beginning of that log which what the pass had seen begins.
-/// Where a new entry's inverse is said to be written, the pass has seen it. The session learns what the entry touches. A refusal has its cause, and says the
-/// position of the entry where that stands all the same. The hops are the carries that the link counted.
+/// Where a new entry's inverse is said to be written, what the pass has then seen there has it, or a later record. The session learns what the entry touches,
+/// and what was merged of its job at the other end, where that is known; no other floor changes. A refusal has its cause, says the position of the entry
+/// where that stands all the same, and teaches the session nothing. The hops are the carries that the link counted.
 pub fn write<K: Keeper, J: Sharing, R: Wait, L: Link>(
     nodes: &LockedNodes<'_, K, J>,
     rt: &R,
@@ -98,22 +93,19 @@ pub fn write<K: Keeper, J: Sharing, R: Wait, L: Link>(
     ensures on { PassGoesOn pass.old pass.new }
     ensures replies { (seen : View) → slice_get pass.old.notes (write_shard call.write) ≡ Some seen
         → RepliesToWrite (on_cluster K.TELLS K.state J.making J.log) (begun seen (L.shown link.old)) (client_call (Client call.session call.seq) call.write)
-        pass.new (L.shown link.new) result }
+        pass.old pass.new (L.shown link.new) result }
 {
     let shard = call.write.shard();
     let Ok(seen) = prepare::<J>(pass, shard) else {
         return out_of_memory();
     };
-    let Some(plan) = begin_write(nodes, pass, call) else {
-        drop(seen);
-        return no_follower(pass.region());
-    };
+    let plan = begin_write(nodes, pass, call);
     let write = OpenWrite {
         plan,
         seen,
         done: None,
         far: None,
     };
-    let write = run_write(nodes, rt, link, write);
+    let write = run_write(nodes, rt, pass, link, write);
     end_write(nodes, pass, write)
 }

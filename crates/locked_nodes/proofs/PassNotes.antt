@@ -6,7 +6,8 @@ use Rattle.graph_model.proofs.Sound.{slice_get-push}
 use Rattle.log_names.specs.Names.{IsOfLog, LogNames}
 use Rattle.session_pass.specs.Passes.{SeenPass, new_pass}
 use Rattle.shard_log.specs.View.{View}
-use Rattle.shared_stores.specs.Making.{Making}
+use Rattle.shared_nodes.specs.shared_stores.Making.{Making}
+use Rattle.locked_nodes.specs.Nodes.{HasTier}
 use Rattle.locked_nodes.specs.Passes.{AreOfTheirLogs, IsPassOf}
 
 pub one_more_long : (count : ℕ) (note : View) (notes more : List View) → length notes ≡ count → more ≡ notes ++ note ∷ [] → length more ≡ count + 1
@@ -21,8 +22,8 @@ one_more_of log shard note notes more long are is pushed n v h = elim (slice_get
 
 -- a new pass with these notes is of the cluster
 pub pass_of : {E : Type 0} (m : Making) (log : LogNames) (session region tier : ℕ) (notes : List View) (r : Result SeenPass E)
-    → region < length m.settings.regions → length notes ≡ m.settings.shards → AreOfTheirLogs log notes
+    → region < length m.settings.regions → HasTier m.settings region tier → length notes ≡ m.settings.shards → AreOfTheirLogs log notes
     → IfOk r (λ pass. pass ≡ new_pass session region tier notes pass.spare) → IfOk r (IsPassOf m log)
-pass_of m log session region tier notes (Ok pass) home long of_logs is =
-    subst (IsPassOf m log) (sym is) (record { home = home; long = long; notes = of_logs })
-pass_of m log session region tier notes (Err e) home long of_logs is = tt
+pass_of m log session region tier notes (Ok pass) home there long of_logs is =
+    subst (IsPassOf m log) (sym is) (record { home = home; tier = there; long = long; notes = of_logs })
+pass_of m log session region tier notes (Err e) home there long of_logs is = tt

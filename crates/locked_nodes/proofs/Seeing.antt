@@ -17,7 +17,7 @@ use Rattle.tao_base.specs.Keys.{key_shard}
 use Rattle.tao_base.specs.Queries.{query_shard}
 use Rattle.tao_base.specs.declared.id.Key.{Key}
 use Rattle.tao_base.specs.declared.query.Answer.{Answer}
-use Rattle.shared_stores.specs.Making.{Making}
+use Rattle.shared_nodes.specs.shared_stores.Making.{Making}
 use Rattle.locked_nodes.specs.Passes.{IsLegalSeen, IsPassOf, PassGoesOn, SeesNote}
 
 -- ---- lists
@@ -110,6 +110,7 @@ saw m log shard note old new is here of_log same meets =
     let there_now : Saw m log shard note old (record old { notes = slice_set old.notes shard longer }) = record {
       pass = record {
         home = is.home;
+        tier = is.tier;
         long = len_set old.notes shard longer ∙ is.long;
         notes = λ k v stands. met_seen log old.notes shard longer k v own.0 own.1 is.notes refl stands;
       };
@@ -170,7 +171,7 @@ pub room_apart : (m : Making) (log : LogNames) (old new : SeenPass) → IsPassOf
     → IsPassOf m log new × PassGoesOn old new × (new.floors ≡ old.floors)
 room_apart m log old new is same =
     subst (λ (p : SeenPass). IsPassOf m log p × PassGoesOn old p × (p.floors ≡ old.floors)) (sym same) (
-      record { home = is.home; long = is.long; notes = is.notes },
+      record { home = is.home; tier = is.tier; long = is.long; notes = is.notes },
       record { session = refl; region = refl; tier = refl; floors = record { rise = λ key. omega arith }; notes = (goes_self old).notes },
       refl,
     )
@@ -183,7 +184,7 @@ learnt_seen m log key version note old new is here of_log same rise meets =
     let met : Saw m log (key_shard key) note old mid = saw m log (key_shard key) note old mid is here of_log refl meets in
     let after : SeenPass = record old { floors = new.floors; notes = after_meeting (key_shard key) note old.notes; spare = new.spare } in
     let there_now : Saw m log (key_shard key) note old after = record {
-      pass = record { home = is.home; long = met.pass.long; notes = met.pass.notes };
+      pass = record { home = is.home; tier = is.tier; long = met.pass.long; notes = met.pass.notes };
       on = record { session = refl; region = refl; tier = refl; floors = rise; notes = met.on.notes };
       sees = met.sees;
     } in

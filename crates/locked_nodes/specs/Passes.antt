@@ -6,7 +6,8 @@ use Rattle.session_pass.specs.Passes.{SeenPass}
 use Rattle.shard_log.specs.GrowthLaws.{IsLegalIn}
 use Rattle.shard_log.specs.View.{Grows, View}
 use Rattle.log_names.specs.Names.{IsOfLog, LogNames}
-use Rattle.shared_stores.specs.Making.{Making}
+use Rattle.shared_nodes.specs.shared_stores.Making.{Making}
+use Rattle.locked_nodes.specs.Nodes.{HasTier}
 use Rattle.tao_base.specs.EdgeTypes.{EdgeTypes}
 use Rattle.tao_base.specs.Queries.{query_shard}
 use Rattle.tao_base.specs.declared.query.Answer.{Answer}
@@ -15,9 +16,10 @@ use Rattle.tao_base.specs.declared.query.Answer.{Answer}
 abbrev pub AreOfTheirLogs : LogNames → List View → Type 0
 AreOfTheirLogs log notes = (shard : ℕ) (note : View) → slice_get notes shard ≡ Some note → IsOfLog log shard note
 
--- the pass is of the cluster: its region is configured, and it has a note for each configured shard, of that shard's log
+-- the pass is of the cluster: its region and its tier are configured, and it has a note for each configured shard, of that shard's log
 pub record IsPassOf (m : Making) (log : LogNames) (pass : SeenPass) : Type 0 where
   pub home : pass.region < length m.settings.regions
+  pub tier : HasTier m.settings pass.region pass.tier
   pub long : length pass.notes ≡ m.settings.shards
   pub notes : AreOfTheirLogs log pass.notes
 

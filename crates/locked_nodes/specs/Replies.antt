@@ -1,10 +1,21 @@
--- What a reply answers.
+-- Why a read gets no answer.
 use Rattle.std.specs.Prelude.{◌≡◌}
-use Rattle.replies.specs.declared.calls.CallReply.TheVariants as called
-use Rattle.replies.specs.declared.calls.ReadReply.{ReadReply}
+use Rattle.replies.specs.declared.refusals.Refusal.{Refusal}
+use Rattle.replies.specs.declared.refusals.Refusal.TheVariants.{Memory, Store}
+use Rattle.replies.specs.declared.refusals.StoreRefused.TheVariants.{KeeperFault, LinkFault}
+use Rattle.replies.specs.declared.refusals.When.TheVariants.{Before}
 use Rattle.replies.specs.declared.reply.Reply.{Reply}
-use Rattle.replies.specs.declared.reply.Reply.TheVariants as reply
+use Rattle.replies.specs.declared.reply.Reply.TheVariants.{Refused}
 
--- the reply answers no read
-abbrev pub AnswersNothing : Reply → Type 0
-AnswersNothing said = (read : ReadReply) → said ≡ reply.Called (called.Read read) → ⊥
+-- why a read gets no answer, where the link has failed, as the one says, and keepers may fail, as the other one does: for that, or for want of memory. For
+-- no other cause
+abbrev pub RefusesFor : Type 0 → Type 0 → Refusal → Type 0
+RefusesFor failed fails (Store (LinkFault count Before)) = failed
+RefusesFor failed fails (Store (KeeperFault count)) = fails
+RefusesFor failed fails (Memory position) = position ≡ 0
+RefusesFor failed fails other = ⊥
+
+-- the reply is a refusal, for such a cause
+abbrev pub RepliesRefused : Type 0 → Type 0 → Reply → Type 0
+RepliesRefused failed fails (Refused refusal) = RefusesFor failed fails refusal
+RepliesRefused failed fails other = ⊥

@@ -3,30 +3,28 @@ ghost use Rattle.std.specs.Prelude.{ℕ, ◌≡◌, IfErr, IfOk};
 ghost use Rattle.core_model.specs.Asked.{lent_read, settings};
 ghost use Rattle.core_model.specs.Reads.{IsRightAnswer, IsRightFill, given_of, wanted};
 ghost use Rattle.core_model.specs.Serving.{IsFollowerFor, IsLeaderFor};
-ghost use Rattle.locked_nodes.specs.Replies.{AnswersNothing};
+ghost use Rattle.locked_nodes.specs.Cluster.{MayFail};
+ghost use Rattle.locked_nodes.specs.Replies.{RepliesRefused};
 ghost use Rattle.log_names.specs.Names.{IsOfLog};
-ghost use Rattle.region_stream.specs.Following.{CountsEmpties};
 ghost use Rattle.session_pass.specs.Passes.{ReachesIn};
 ghost use Rattle.shard_log.specs.GrowthLaws.{IsLegalIn};
 ghost use Rattle.shard_log.specs.View.{Grows};
-ghost use Rattle.shard_tables.specs.Refusals.{IsOfReads};
 ghost use Rattle.shared_nodes.specs.Nodes.{IsKeptAsSeen, IsLegalHit};
+ghost use Rattle.shared_nodes.specs.shared_stores.PastBound.{IsUndecidedGiven};
 ghost use Rattle.tao_base.specs.Queries.{query_key, query_shard};
 ghost use Rattle.tao_schema.specs.Schema.{types_of};
 
-use crate::refusals::refused;
 use ask_table::AskNo;
 use core_model::{Around, Wanted};
 use node_name::NodeName;
-use region_stream::Follow;
 use replies::Reply;
 use sealed_item::Fill;
 use shard_log::Note;
-use shard_tables::{LeaderAnswer, ReadOut, StoreRefusal, StoreRole};
+use shard_tables::{LeaderAnswer, ReadOut, StoreRole};
+use shared_nodes::shared_stores::{SharedStore, Sharing};
 use shared_nodes::{SharedFollower, SharedKept, SharedLeader, SharedLook};
-use shared_stores::{SharedStore, Sharing};
 use store_replies::{out_of_memory, refused_as};
-use tao_base::{Entry, OutOfMemory, Query, StoreName};
+use tao_base::{OutOfMemory, Query, StoreName};
 use tao_keeper::Keeper;
 use tao_schema::Schema;
 
@@ -108,7 +106,8 @@ pub(crate) fn ask<K: Keeper, J: Sharing>(
     requires serves { IsLeaderFor J.making.settings (query_shard read.now.query.now) name }
     requires at { at.shard ≡ query_shard read.now.query.now }
     ensures given { IfOk result (λ asked. IsRightAnswer (types_of J.making.settings.schema) (IsOfLog J.log) (lent_read read.now) asked.given) }
-    ensures err { IfErr result AnswersNothing }
+    ensures past { IfOk result (λ asked. IsUndecidedGiven (types_of J.making.settings.schema) read.now.query.now asked.given) }
+    ensures err { IfErr result (RepliesRefused ⊥ (MayFail K.state)) }
 {
     if leader.name() != name || store.name() != at {
         return Err(out_of_memory());
@@ -119,7 +118,7 @@ pub(crate) fn ask<K: Keeper, J: Sharing>(
             given,
             store: calls < store.calls(),
         }),
-        Err(refusal) => Err(refused(refused_as(refusal, store.faults()))),
+        Err(refusal) => Err(Reply::Refused(refused_as(refusal, store.faults()))),
     }
 }
 
@@ -136,8 +135,9 @@ pub(crate) fn read<K: Keeper, J: Sharing>(
     requires log { IsOfLog J.log (query_shard query.now) note.old }
     ensures given { IfOk result (λ read. (floor : ℕ) → ReachesIn note.old (query_key query.now) floor
         → IsRightAnswer (types_of J.making.settings.schema) (IsOfLog J.log) (wanted query.now floor) (given_of read.out)) }
+    ensures past { IfOk result (λ read. IsUndecidedGiven (types_of J.making.settings.schema) query.now (given_of read.out)) }
     ensures grows { Grows note.old note.new }
-    ensures err { IfErr result AnswersNothing }
+    ensures err { IfErr result (RepliesRefused ⊥ (MayFail K.state)) }
 {
     if store.name() != at || store.store.role() != StoreRole::Master {
         return Err(out_of_memory());
@@ -148,27 +148,6 @@ pub(crate) fn read<K: Keeper, J: Sharing>(
             out,
             store: calls < store.calls(),
         }),
-        Err(refusal) => Err(refused(refused_as(refusal, store.faults()))),
+        Err(refusal) => Err(Reply::Refused(refused_as(refusal, store.faults()))),
     }
-}
-
-/// The step of a stream from the one store to the other one.
-pub(crate) fn follow<K: Keeper, J: Sharing>(
-    follow: &mut Follow,
-    master: &mut SharedStore<K, J>,
-    slave: &mut SharedStore<K, J>,
-    from: StoreName,
-    to: StoreName,
-) -> Result<Option<Entry>, StoreRefusal>
-    requires shard { from.shard ≡ to.shard }
-    ensures empties { CountsEmpties follow.old follow.new result }
-    ensures refused { IfErr result IsOfReads }
-{
-    if master.name() != from || master.store.role() != StoreRole::Master {
-        return Err(StoreRefusal::OutOfMemory);
-    }
-    if slave.name() != to || slave.store.role() != StoreRole::Slave {
-        return Err(StoreRefusal::OutOfMemory);
-    }
-    shared_stores::follow(follow, master, slave)
 }

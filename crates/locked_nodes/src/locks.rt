@@ -3,14 +3,14 @@ ghost use Rattle.std.specs.Prelude.{ℕ, ◌≡◌, IfErr, IfOk};
 ghost use Rattle.core_model.specs.Asked.{lent_read, settings};
 ghost use Rattle.core_model.specs.Reads.{IsRightAnswer, IsRightFill, given_of, wanted};
 ghost use Rattle.core_model.specs.Serving.{IsFollowerFor, IsLeaderFor};
-ghost use Rattle.locked_nodes.specs.Replies.{AnswersNothing};
+ghost use Rattle.locked_nodes.specs.Cluster.{MayFail};
+ghost use Rattle.locked_nodes.specs.Replies.{RepliesRefused};
 ghost use Rattle.log_names.specs.Names.{IsOfLog};
-ghost use Rattle.region_stream.specs.Following.{CountsEmpties};
 ghost use Rattle.session_pass.specs.Passes.{ReachesIn};
 ghost use Rattle.shard_log.specs.GrowthLaws.{IsLegalIn};
 ghost use Rattle.shard_log.specs.View.{Grows};
-ghost use Rattle.shard_tables.specs.Refusals.{IsOfReads};
 ghost use Rattle.shared_nodes.specs.Nodes.{IsKeptAsSeen, IsLegalHit};
+ghost use Rattle.shared_nodes.specs.shared_stores.PastBound.{IsUndecidedGiven};
 ghost use Rattle.tao_base.specs.Queries.{query_key, query_shard};
 ghost use Rattle.tao_schema.specs.Schema.{types_of};
 
@@ -20,16 +20,14 @@ use crate::nodes::LockedNodes;
 use ask_table::AskNo;
 use core_model::{Around, Wanted};
 use node_name::NodeName;
-use region_stream::Follow;
 use replies::Reply;
 use sealed_item::Fill;
 use shard_log::Note;
-use shard_tables::StoreRefusal;
+use shared_nodes::shared_stores::Sharing;
 use shared_nodes::{SharedKept, SharedLook};
-use shared_stores::Sharing;
 use std::sync::Wait;
 use store_replies::out_of_memory;
-use tao_base::{Entry, OutOfMemory, Query, StoreName};
+use tao_base::{OutOfMemory, Query, StoreName};
 use tao_keeper::Keeper;
 
 impl<'c, K: Keeper, J: Sharing> LockedNodes<'c, K, J> {
@@ -114,7 +112,8 @@ impl<'c, K: Keeper, J: Sharing> LockedNodes<'c, K, J> {
         requires serves { IsLeaderFor J.making.settings (query_shard read.now.query.now) name }
         requires at { at.shard ≡ query_shard read.now.query.now }
         ensures given { IfOk result (λ asked. IsRightAnswer (types_of J.making.settings.schema) (IsOfLog J.log) (lent_read read.now) asked.given) }
-        ensures err { IfErr result AnswersNothing }
+        ensures past { IfOk result (λ asked. IsUndecidedGiven (types_of J.making.settings.schema) read.now.query.now asked.given) }
+        ensures err { IfErr result (RepliesRefused ⊥ (MayFail K.state)) }
     {
         let Some(leader) = self.leader(name) else {
             return Err(out_of_memory());
@@ -141,8 +140,9 @@ impl<'c, K: Keeper, J: Sharing> LockedNodes<'c, K, J> {
         requires log { IsOfLog J.log (query_shard query.now) note.old }
         ensures given { IfOk result (λ read. (floor : ℕ) → ReachesIn note.old (query_key query.now) floor
             → IsRightAnswer (types_of J.making.settings.schema) (IsOfLog J.log) (wanted query.now floor) (given_of read.out)) }
+        ensures past { IfOk result (λ read. IsUndecidedGiven (types_of J.making.settings.schema) query.now (given_of read.out)) }
         ensures grows { Grows note.old note.new }
-        ensures err { IfErr result AnswersNothing }
+        ensures err { IfErr result (RepliesRefused ⊥ (MayFail K.state)) }
     {
         let Some(store) = self.store(at) else {
             return Err(out_of_memory());
@@ -150,27 +150,5 @@ impl<'c, K: Keeper, J: Sharing> LockedNodes<'c, K, J> {
         let mut store = store.lock(rt);
         let around = self.around();
         holds::read(&mut store, &around, at, query, note)
-    }
-
-    /// A step of a stream between two stores of a shard, under the locks of both, that of the lower region first: adds the next entry of the one's log to
-    /// the other's, and answers it. None where the logs are equally long.
-    ///
-    /// A refusal changes neither store. `KeeperFault` comes only where the count of faults of one of the keepers rose, and `OutOfMemory` where there was no
-    /// memory, or the stores aren't a master's and a slave's.
-    pub fn follow<R: Wait>(
-        &self,
-        rt: &R,
-        follow: &mut Follow,
-        from: StoreName,
-        to: StoreName,
-    ) -> Result<Option<Entry>, StoreRefusal>
-        requires shard { from.shard ≡ to.shard }
-        ensures empties { CountsEmpties follow.old follow.new result }
-        ensures refused { IfErr result IsOfReads }
-    {
-        let Some((mut master, mut slave)) = self.lock_stores(rt, from, to) else {
-            return Err(StoreRefusal::OutOfMemory);
-        };
-        holds::follow(follow, &mut master, &mut slave, from, to)
     }
 }

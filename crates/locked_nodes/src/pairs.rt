@@ -1,7 +1,7 @@
 //! The locks of two stores.
 use crate::nodes::LockedNodes;
 use core_model::store_place;
-use shared_stores::{SharedStore, Sharing};
+use shared_nodes::shared_stores::{SharedStore, Sharing};
 use std::sync::{Mutex, MutexGuard, Wait};
 use tao_base::StoreName;
 use tao_keeper::Keeper;

@@ -8,7 +8,7 @@ ghost use Rattle.tao_base.specs.Keys.{key_shard};
 
 use session_pass::Pass;
 use shard_log::Note;
-use shared_stores::Sharing;
+use shared_nodes::shared_stores::Sharing;
 use tao_base::{Key, OutOfMemory};
 
 /// Makes room for all that a call may teach, and gives a note of what the pass has seen of a shard's log. Where there is no memory, the session has learnt

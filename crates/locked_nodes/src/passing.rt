@@ -1,5 +1,6 @@
 //! The passes of a cluster's sessions.
 ghost use Rattle.std.specs.Prelude.{◌≡◌, ◌<◌, [], IfOk, length};
+ghost use Rattle.locked_nodes.specs.Nodes.{HasTier};
 ghost use Rattle.locked_nodes.specs.Passes.{AreOfTheirLogs, IsPassOf};
 ghost use Rattle.log_names.specs.Names.{IsOfLog};
 
@@ -7,7 +8,7 @@ use crate::nodes::LockedNodes;
 use core_nodes::master_store;
 use session_pass::Pass;
 use shard_log::Note;
-use shared_stores::{SharedStore, Sharing};
+use shared_nodes::shared_stores::{SharedStore, Sharing};
 use std::sync::Wait;
 use tao_base::{OutOfMemory, StoreName};
 use tao_keeper::Keeper;
@@ -51,8 +52,8 @@ impl<'c, K: Keeper, J: Sharing> LockedNodes<'c, K, J> {
         Ok(notes)
     }
 
-    /// The pass of a session of a tier, by its place in its region, which was told of nothing yet. It has a note of each shard's log, in their order, each
-    /// taken under the lock of the shard's master's store. The one error is out of memory.
+    /// The pass of a session of a configured tier, by its place in its region, which was told of nothing yet. It has a note of each shard's log, in their
+    /// order, each taken under the lock of the shard's master's store. The one error is out of memory.
     pub fn pass<R: Wait>(
         &self,
         rt: &R,
@@ -61,6 +62,7 @@ impl<'c, K: Keeper, J: Sharing> LockedNodes<'c, K, J> {
         tier: u16,
     ) -> Result<Pass, OutOfMemory>
         requires home { region < length J.making.settings.regions }
+        requires tier { HasTier J.making.settings region tier }
         ensures pass { IfOk result (IsPassOf J.making J.log) }
         ensures session { IfOk result (λ pass. pass.session ≡ session) }
         ensures region { IfOk result (λ pass. pass.region ≡ region) }

@@ -1,6 +1,6 @@
 -- What a commit at the leader and the store answers, said of the notes alone; and that a keeper which failed may fail.
-use Rattle.std.proofs.Common.{◌≡◌, ◌≢◌, ℕ, Bool, true, false, List, [], ◌∷◌, Option, Some, None, length, Result, Ok, ap, refl, arith, subst, sym, ◌∙◌}
-use Rattle.std.specs.Prelude.{IfSome, IsErrOf}
+use Rattle.std.proofs.Common.{◌≡◌, ◌≢◌, ℕ, Bool, true, false, List, [], ◌∷◌, Option, Some, None, length, Result, Ok, Err, ap, refl, subst, sym, ◌∙◌}
+use Rattle.std.specs.Prelude.{IfSome}
 use Rattle.core_model.specs.Asked.{AuthoredWrite}
 use Rattle.core_model.specs.Jobs.{far_shard}
 use Rattle.graph_model.specs.Log.{entry_at}
@@ -16,7 +16,7 @@ use Rattle.shard_tables.specs.Stores.{HasSeen}
 use Rattle.shard_tables.specs.WriteDone.{StoreGains, WriteDone, asked_at}
 use Rattle.shard_tables.specs.Written.{AnswersAs, AskedWrite, LiesOn, StandsIn, WriteAnswers}
 use Rattle.shard_tables.specs.declared.refusal.StoreRefusal.{StoreRefusal}
-use Rattle.shard_tables.specs.declared.refusal.StoreRefusal.TheVariants.{KeeperFault}
+use Rattle.shard_tables.specs.declared.refusal.StoreRefusal.TheVariants.{KeeperFault, LogFull, ShardFull, StampFull, TooOld, SeqReused, OutOfMemory}
 use Rattle.shard_tables.specs.declared.store.StoreRole.{StoreRole}
 use Rattle.shard_tables.specs.declared.store.StoreRole.TheVariants.{Master}
 use Rattle.shard_tables.specs.declared.writes.Wrote.{Wrote}
@@ -34,9 +34,12 @@ use Rattle.tao_schema.specs.Schema.{types_of}
 use Rattle.write_model.proofs.Written.{given_entry}
 use Rattle.write_model.specs.Merges.{job_of}
 use Rattle.write_model.specs.Writes.{touches_of}
-use Rattle.counts.specs.Count.{Rose}
+use Rattle.store_replies.specs.Refused.{refused_as}
+use Rattle.replies.specs.declared.refusals.Refusal.{Refusal}
+use Rattle.locked_nodes.proofs.Refusing.{may_fail}
+use Rattle.locked_nodes.specs.Cluster.{MayFail}
 use Rattle.locked_writes.proofs.Origins.{once_at}
-use Rattle.locked_writes.specs.Writes.{CommitsIn, MayFail, StandsOnce}
+use Rattle.locked_writes.specs.Writes.{CommitsIn, RefusesSeen, SeenWhereTold, StandsOnce}
 
 -- ---- the entry
 
@@ -122,9 +125,23 @@ module _ (tells : Bool) (m : Making) (log : LogNames) (call : AuthoredWrite) (he
 
 -- ---- refusals
 
--- a keeper that failed may fail
-pub may_fail : {M T : Type 0} (state : M → KeeperState) (before after : M) (r : Result T StoreRefusal) → CallsKeeper KeeperFault (state before) (state after) r
-    → IsErrOf r KeeperFault → MayFail state
-may_fail state before after r calls failed none =
-    let rose : Rose (state before).faults (state after).faults = calls.failed failed in
-    absurd (omega (arith, rose, none before, none after))
+-- how a store's refusal of a write is said
+refused_so : (tells : Bool) (asked : AskedWrite) (fails : Type 0) (faults : ℕ) (refusal : StoreRefusal) → WhereTold tells (WriteAnswers asked (Err refusal))
+    → (refusal ≡ KeeperFault → fails) → RefusesSeen (SeenWhereTold tells asked) fails (refused_as faults refusal)
+refused_so tells asked fails faults KeeperFault answers failed = failed refl
+refused_so tells asked fails faults OutOfMemory answers failed = refl
+refused_so tells asked fails faults (LogFull count) answers failed = answers
+refused_so tells asked fails faults (ShardFull serial) answers failed = answers
+refused_so tells asked fails faults (StampFull number) answers failed = answers
+refused_so tells asked fails faults (TooOld cut position) answers failed = answers
+refused_so tells asked fails faults (SeqReused position) answers failed = answers
+
+-- why a commit is refused
+pub commit_refused : {M : Type 0} (state : M → KeeperState) (before after : M) (tells : Bool) (asked : AskedWrite) (r : Result Wrote StoreRefusal)
+    (refusal : StoreRefusal) (faults : ℕ) (said : Refusal) → r ≡ Err refusal → WhereTold tells (WriteAnswers asked r)
+    → CallsKeeper KeeperFault (state before) (state after) r → said ≡ refused_as faults refusal
+    → RefusesSeen (SeenWhereTold tells asked) (MayFail state) said
+commit_refused state before after tells asked r refusal faults said err answers calls is =
+    subst (RefusesSeen (SeenWhereTold tells asked) (MayFail state)) (sym is)
+    (refused_so tells asked (MayFail state) faults refusal (λ told. subst (WriteAnswers asked) err (answers told))
+    (λ fault. may_fail state before after r calls (err ∙ ap Err fault)))

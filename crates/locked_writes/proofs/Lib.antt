@@ -1,3 +1,4 @@
 pub mod Committed
 pub mod LeftOpen
+pub mod MergedThere
 pub mod Origins

@@ -9,8 +9,7 @@ use Rattle.replies.specs.declared.calls.ScheduledWhy.{ScheduledWhy}
 use Rattle.replies.specs.declared.calls.ScheduledWhy.TheVariants.{LinkFault, KeeperFault as KeeperFailed, LogFull as FarLogFull, NoServer, Memory as NoMemory}
 use Rattle.replies.specs.declared.refusals.Refusal.{Refusal}
 use Rattle.replies.specs.declared.refusals.Refusal.TheVariants.{Store, Memory}
-use Rattle.replies.specs.declared.refusals.StoreRefused.{StoreRefused}
-use Rattle.replies.specs.declared.refusals.StoreRefused.TheVariants.{LinkFault as LinkFailed, SeqReused, TooOld, ShardFull, StampFull, LogFull, KeeperFault}
+use Rattle.replies.specs.declared.refusals.StoreRefused.TheVariants.{SeqReused, TooOld, ShardFull, StampFull, LogFull, KeeperFault}
 use Rattle.shard_log.specs.View.{Grows, View}
 use Rattle.shard_tables.specs.Written.{AnswersAs, AskedWrite, HasEntry, IsLogFull, IsReused, IsShardFull, IsStampFull, IsTooOld, LiesOn, StandsIn}
 use Rattle.shard_tables.specs.declared.writes.Wrote.{Wrote}
@@ -20,14 +19,10 @@ use Rattle.shared_stores.specs.Owed.{IsOwed, owed_by}
 use Rattle.tao_base.specs.Writes.{write_shard}
 use Rattle.tao_base.specs.declared.entry.Entry.{Entry}
 use Rattle.tao_base.specs.declared.entry.Origin.{Origin}
-use Rattle.tao_keeper.specs.KeeperState.{KeeperState}
+use Rattle.tao_keeper.specs.declared.jobs.Job.{Job}
 use Rattle.tao_schema.specs.Schema.{types_of}
-use Rattle.write_model.specs.Merges.{job_of}
+use Rattle.write_model.specs.Merges.{job_of, merge_of}
 use Rattle.write_model.specs.Writes.{FitsWrite}
-
--- keepers of the type may fail: not each of them shows that it never did
-abbrev pub MayFail : {M : Type 0} → (M → KeeperState) → Type 0
-MayFail state = ¬ ((keeper : _) → (state keeper).faults ≡ 0)
 
 -- ---- the commit
 
@@ -59,33 +54,29 @@ pub record CommitsIn (tells : Bool) (m : Making) (log : LogNames) (call : Author
       → IsOwed tells (types_of m.settings.schema) (owed_by (write_shard call.write) job e)))
   pub paid : wrote.retry ≡ false → wrote.job ≡ None → IfSome wrote.entry (λ e. job_of (types_of m.settings.schema) e ≡ [])
 
--- why a store refuses a write that is asked of what was seen of its log
-abbrev pub StoreRefusesSeen : AskedWrite → StoreRefused → Type 0
-StoreRefusesSeen asked (TooOld cut position) = IsTooOld asked cut position
-StoreRefusesSeen asked (SeqReused position) = IsReused asked position
-StoreRefusesSeen asked (ShardFull serial) = IsShardFull asked serial
-StoreRefusesSeen asked (StampFull number) = IsStampFull asked number
-StoreRefusesSeen asked (LogFull count) = IsLogFull asked count
-StoreRefusesSeen asked (KeeperFault count) = ⊤
-StoreRefusesSeen asked other = ⊥
+-- why a write is refused where it is committed: for its origin, a last number or a full log, as the one says of what was seen of the log; since keepers may
+-- fail, as the other one does; or for want of memory, with nothing written. For no other cause
+abbrev pub RefusesSeen : ((AskedWrite → Type 0) → Type 0) → Type 0 → Refusal → Type 0
+RefusesSeen Seen fails (Store (TooOld cut position)) = Seen (λ asked. IsTooOld asked cut position)
+RefusesSeen Seen fails (Store (SeqReused position)) = Seen (λ asked. IsReused asked position)
+RefusesSeen Seen fails (Store (ShardFull serial)) = Seen (λ asked. IsShardFull asked serial)
+RefusesSeen Seen fails (Store (StampFull number)) = Seen (λ asked. IsStampFull asked number)
+RefusesSeen Seen fails (Store (LogFull count)) = Seen (λ asked. IsLogFull asked count)
+RefusesSeen Seen fails (Store (KeeperFault count)) = fails
+RefusesSeen Seen fails (Memory position) = position ≡ 0
+RefusesSeen Seen fails other = ⊥
 
--- a write is refused by its store, or for want of memory before it is committed
-abbrev pub RefusesSeen : AskedWrite → Refusal → Type 0
-RefusesSeen asked (Store refused) = StoreRefusesSeen asked refused
-RefusesSeen asked (Memory position) = position ≡ 0
-RefusesSeen asked other = ⊥
-
--- the keeper has failed
-abbrev pub IsKeeperFault : Refusal → Type 0
-IsKeeperFault (Store (KeeperFault count)) = ⊤
-IsKeeperFault other = ⊥
-
--- no link has failed
-abbrev pub IsNoLinkFault : Refusal → Type 0
-IsNoLinkFault (Store (LinkFailed count when)) = ⊥
-IsNoLinkFault other = ⊤
+-- it is so of a write that is asked of what was seen of a log, where that is told
+abbrev pub SeenWhereTold : Bool → AskedWrite → (AskedWrite → Type 0) → Type 0
+SeenWhereTold tells asked P = WhereTold tells (P asked)
 
 -- ---- its job
+
+-- a merge of a job of the shard wrote this entry, or nothing: what there was to write on a beginning of the log that is no shorter than what was seen before
+pub record MergesSince (from : ℕ) (job : Job) (seen log : List Entry) (entry : Option Entry) : Type 0 where
+  pub n : ℕ
+  pub since : length seen ≤ n
+  pub entry_is : entry ≡ merge_of (take n log) from job.position job.edges
 
 -- why a job isn't merged, or not ended, where keepers may fail or not, and this was seen of the log where it is owed
 abbrev pub StaysOpenFor : Type 0 → ℕ → Option View → ScheduledWhy → Type 0

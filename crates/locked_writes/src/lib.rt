@@ -5,8 +5,9 @@
 //!
 //! What it promises. A commit is answered as the write is on a beginning of the shard's log that is no shorter than what the caller had seen; its note has
 //! seen the entry, which fits the write and is the only one of its origin; a job that it answers is owed, and without one nothing is owed. A refusal has
-//! its cause in what the caller's note has then seen, or the keeper may fail. A job that is merged is done in the note that is answered; why one stays
-//! open has its cause.
+//! its cause in what the caller's note has then seen, or the keeper may fail, or there was no memory; no other comes. A job that is merged is done in the
+//! note that is answered, which what the caller had seen of the log there begins; its merge wrote what there was to write on a beginning of that log that is
+//! no shorter than what the caller had seen. Why a job stays open has its cause.
 //!
 //! The contracts that say so: `commit`, `merge`, `end`, `relay`, `apply`, `notify`.
 #![tactic(auto)]

@@ -7,10 +7,11 @@ ghost use Rattle.core_model.specs.Serving.{IsFollowerFor, IsLeaderFor};
 ghost use Rattle.core_model.specs.Writes.{AppliesTo};
 ghost use Rattle.graph_model.specs.Soundness.{is_client};
 ghost use Rattle.graph_model.specs.Told.{WhereTold};
-ghost use Rattle.locked_writes.specs.Writes.{CommitsIn, IsKeeperFault, IsNoLinkFault, MayFail, RefusesSeen, StaysOpenFor};
+ghost use Rattle.locked_nodes.specs.Cluster.{MayFail};
+ghost use Rattle.locked_writes.specs.Writes.{CommitsIn, MergesSince, RefusesSeen, SeenWhereTold, StaysOpenFor};
 ghost use Rattle.log_names.specs.Names.{IsOfLog};
-ghost use Rattle.node_stages.specs.Relays.{RelaysTo};
-ghost use Rattle.node_stages.specs.Stages.{FollowerDoes, LeaderDoes};
+ghost use Rattle.shared_stores.specs.node_stages.Relays.{RelaysTo};
+ghost use Rattle.shared_stores.specs.node_stages.Stages.{FollowerDoes, LeaderDoes};
 ghost use Rattle.shard_log.specs.View.{Grows, as_note};
 ghost use Rattle.shard_tables.specs.Written.{LiesOn, StandsIn};
 ghost use Rattle.shared_stores.specs.Asked.{asked_of_seen, lent_owed};
@@ -19,11 +20,11 @@ ghost use Rattle.tao_base.specs.Writes.{ChangesType, write_shard};
 ghost use Rattle.tao_schema.specs.Schema.{types_of};
 
 use core_model::{Around, AuthoredWrite};
+use locked_nodes::shared_nodes::{SharedFollower, SharedLeader, SharedMerge};
 use node_name::NodeName;
 use replies::{Refusal, ScheduledWhy};
 use shard_log::Note;
 use shard_tables::{StoreRole, Wrote};
-use shared_nodes::{SharedFollower, SharedLeader, SharedMerge};
 use shared_stores::{CountedNote, OwedJob, SharedStore, Sharing};
 use store_replies::{refused_as, why_left_open};
 use tao_base::{Entry, OutOfMemory, StoreName};
@@ -64,11 +65,12 @@ pub struct MergePlace {
     pub far: StoreName,
 }
 
-/// What stands around a merge, and where it is done.
-#[derive(Clone, Copy)]
+/// What stands around a merge, where it is done, and a note of the log there.
+#[derive(Drop)]
 pub(crate) struct HeldMerge<'c> {
     pub(crate) around: Around<'c>,
     pub(crate) place: MergePlace,
+    pub(crate) there: Note,
 }
 
 /// Why a job isn't merged, and what was then seen of the log where it is owed.
@@ -76,6 +78,16 @@ pub(crate) struct HeldMerge<'c> {
 pub struct NotMerged {
     pub why: ScheduledWhy,
     pub seen: Option<Note>,
+}
+
+/// A job isn't merged, for want of memory.
+pub(crate) fn unmerged() -> NotMerged
+    ensures { result ≡ record { why = ScheduledWhy.Memory; seen = None } }
+{
+    NotMerged {
+        why: ScheduledWhy::Memory,
+        seen: None,
+    }
 }
 
 /// Whether it is the store of that name, and its shard's master.
@@ -146,10 +158,8 @@ pub(crate) fn commit<K: Keeper, J: Sharing>(
     ensures sees { IfOk result (λ done. Grows done.wrote.note seen.new) }
     ensures spare { IfOk result (λ done. done.spare ≡ done.wrote.note) }
     ensures relay { IfOk result (λ done. done.relay ≡ (if place.passes then Some done.wrote.note else None)) }
-    ensures refused { IfErr result (λ refusal. WhereTold K.TELLS
-        (RefusesSeen (asked_of_seen J.making (write_shard call.now.write.now) seen.new.entries (lent_call call.now)) refusal)) }
-    ensures cause { IfErr result (λ refusal. IsKeeperFault refusal → MayFail K.state) }
-    ensures no_link { IfErr result IsNoLinkFault }
+    ensures refused { IfErr result (RefusesSeen (SeenWhereTold K.TELLS
+        (asked_of_seen J.making (write_shard call.now.write.now) seen.new.entries (lent_call call.now))) (MayFail K.state)) }
 {
     if leader.name() != place.leader || !is_master(store, place.store) {
         return Err(Refusal::Memory { position: 0 });
@@ -175,21 +185,25 @@ pub(crate) fn commit<K: Keeper, J: Sharing>(
 }
 
 /// The stage `inverse`: a job is merged at the leader and the store where it is owed; each of the two stores sees the other's whole log. The caller's note
-/// of the job's own log sees all of that.
+/// of the job's own log sees all of that, and what is answered begins with what the other one had seen of the log there.
 pub(crate) fn merge<K: Keeper, J: Sharing>(
     leader: &mut SharedLeader<J>,
     near: &mut SharedStore<K, J>,
     far: &mut SharedStore<K, J>,
-    held: &HeldMerge<'_>,
+    held: HeldMerge<'_>,
     owed: &OwedJob<'_>,
     seen: &mut Note,
 ) -> Result<SharedMerge, NotMerged>
-    requires schema { (settings held.now.around).schema ≡ J.making.settings.schema }
-    requires serves { IsLeaderFor J.making.settings owed.now.to held.now.place.leader }
-    requires near { held.now.place.near.shard ≡ owed.now.from }
-    requires far { held.now.place.far.shard ≡ owed.now.to }
+    requires schema { (settings held.around).schema ≡ J.making.settings.schema }
+    requires serves { IsLeaderFor J.making.settings owed.now.to held.place.leader }
+    requires near { held.place.near.shard ≡ owed.now.from }
+    requires far { held.place.far.shard ≡ owed.now.to }
     requires owed { IsOwedIn K.TELLS J.making J.log seen.old (lent_owed owed.now) }
+    requires there { IsOfLog J.log owed.now.to held.there }
     ensures grows { Grows seen.old seen.new }
+    ensures since { IfOk result (λ merge. Grows held.entry.there merge.wrote.note) }
+    ensures writes { IfOk result (λ merge. WhereTold K.TELLS
+        (MergesSince owed.now.from owed.now.job.now held.entry.there.entries merge.wrote.note.entries merge.wrote.entry)) }
     ensures merged { IfOk result (λ merge. IsDoneIn J.making J.log merge.done (lent_owed owed.now)) }
     ensures note { IfOk result (λ merge. merge.wrote.note ≡ merge.done) }
     ensures stands { IfOk result (λ merge. IfSome merge.wrote.entry (StandsIn merge.wrote.note)) }
@@ -199,18 +213,18 @@ pub(crate) fn merge<K: Keeper, J: Sharing>(
     ensures seen_told { IfErr result (λ left. IfSome left.seen (λ note. note.log.told ≡ K.TELLS)) }
     ensures why { IfErr result (λ left. StaysOpenFor (MayFail K.state) J.making.settings.log_max left.seen left.why) }
 {
-    let (around, place) = (held.around, held.place);
+    let HeldMerge {
+        around,
+        place,
+        mut there,
+    } = held;
     if leader.name() != place.leader || !is_master(near, place.near) || !is_master(far, place.far) {
-        return Err(NotMerged {
-            why: ScheduledWhy::Memory,
-            seen: None,
-        });
+        drop(there);
+        return Err(unmerged());
     }
-    let Ok(mut there) = far.note() else {
-        return Err(NotMerged {
-            why: ScheduledWhy::Memory,
-            seen: None,
-        });
+    let Ok(()) = far.meet(&mut there) else {
+        drop(there);
+        return Err(unmerged());
     };
     match leader.merge(&around, near, far, owed, seen, &mut there) {
         Ok(merge) => Ok(merge),

@@ -21,5 +21,5 @@ returns-in-Ok-keep-clause-legal g c =
 
 pub returns-in-Ok-keep-clause-kept : goal.returns-in-Ok-keep-clause-kept
 returns-in-Ok-keep-clause-kept g c =
-    kept_reason c.in-Ok-keep.kept.note c.see_kept.new.seen c.args.plan.now c.query-query.result.now c.in-Ok-keep.kept.kept c.see_kept.result.1
-    c.query-query.ensures c.see_kept.ensures.kept c.see_kept.ensures.note c.in-Ok-keep.ensures.why
+    kept_reason (types_of g.J.Sharing.making.settings.schema) c.in-Ok-keep.kept.note c.see_kept.new.seen c.args.plan.now c.query-query.result.now
+    c.in-Ok-keep.kept.kept c.see_kept.result.1 c.args.fill.version c.query-query.ensures c.see_kept.ensures.kept c.see_kept.ensures.note c.in-Ok-keep.ensures.why

@@ -1,7 +1,7 @@
 use Rattle.std.proofs.Common.{◌≡◌, arith}
 use Rattle.std.specs.Prelude.{◌-◌}
 use Rattle.cluster_writes.proofs.StepLemmas.{commit_steps, counted_steps}
-use Rattle.cluster_writes.specs.Open.{on_cluster}
+use Rattle.locked_nodes.specs.Cluster.{on_cluster}
 use Rattle.cluster_writes.proofs.committing.commit_stage.Goals as goal
 
 pub returns : goal.returns

@@ -1,5 +1,5 @@
 use Rattle.cluster_writes.proofs.StepLemmas.{end_steps}
-use Rattle.cluster_writes.specs.Open.{on_cluster}
+use Rattle.locked_nodes.specs.Cluster.{on_cluster}
 use Rattle.cluster_writes.proofs.merging.end_stage.Goals as goal
 
 pub returns : goal.returns

@@ -1,6 +1,6 @@
 use Rattle.std.proofs.Common.{◌<◌, subst}
 use Rattle.cluster_writes.proofs.StageLemmas.{IsOwedAt, owed_there}
-use Rattle.cluster_writes.specs.Open.{on_cluster}
+use Rattle.locked_nodes.specs.Cluster.{on_cluster}
 use Rattle.shared_stores.specs.Asked.{lent_owed}
 use Rattle.topology.specs.Config.{Settings}
 use Rattle.cluster_writes.proofs.merging.merge_over.Goals as goal

@@ -1,7 +1,7 @@
 use Rattle.std.proofs.Common.{◌≡◌, arith}
 use Rattle.std.specs.Prelude.{◌-◌}
 use Rattle.cluster_writes.proofs.StepLemmas.{counted_steps, spare_held, apply_committed, apply_steps, to_apply}
-use Rattle.cluster_writes.specs.Open.{on_cluster}
+use Rattle.locked_nodes.specs.Cluster.{on_cluster}
 use Rattle.cluster_writes.proofs.way_back.apply_stage.Goals as goal
 
 pub spare_note_of-note-requires-clause-committed : goal.spare_note_of-note-requires-clause-committed

@@ -1,7 +1,7 @@
 use Rattle.std.proofs.Common.{◌≡◌, arith}
 use Rattle.std.specs.Prelude.{◌-◌}
 use Rattle.cluster_writes.proofs.StepLemmas.{counted_steps, relay_held, relay_committed, relay_steps, to_relay}
-use Rattle.cluster_writes.specs.Open.{on_cluster}
+use Rattle.locked_nodes.specs.Cluster.{on_cluster}
 use Rattle.cluster_writes.proofs.way_back.relay_stage.Goals as goal
 
 pub relay_note_of-note-requires-clause-committed : goal.relay_note_of-note-requires-clause-committed

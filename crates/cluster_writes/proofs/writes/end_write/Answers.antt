@@ -2,7 +2,7 @@ use Rattle.std.proofs.Common.{ap, ◌∙◌}
 use Rattle.locked_nodes.proofs.Seeing.{goes_trans}
 use Rattle.cluster_writes.proofs.WholeWrites.{ends_write, learnt_at, other_views_at}
 use Rattle.cluster_writes.specs.Learning.{carries_out}
-use Rattle.cluster_writes.specs.Open.{on_cluster}
+use Rattle.locked_nodes.specs.Cluster.{on_cluster}
 use Rattle.tao_base.specs.Writes.{write_shard}
 use Rattle.cluster_writes.proofs.writes.end_write.Goals as goal
 

@@ -4,7 +4,8 @@ use Rattle.shard_tables.specs.StoreView.{Store}
 use Rattle.shard_tables.specs.declared.store.StoreRole.TheVariants.{Master}
 use Rattle.tao_base.specs.Writes.{write_shard}
 use Rattle.tao_base.specs.declared.id.StoreName.{StoreName}
-use Rattle.locked_writes.proofs.Committed.{committed}
+use Rattle.shared_stores.specs.Asked.{asked_of_seen}
+use Rattle.locked_writes.proofs.Committed.{commit_refused, committed}
 use Rattle.locked_writes.proofs.writing.commit.Goals as goal
 
 pub returns-in-Ok-commit-clause-commits : goal.returns-in-Ok-commit-clause-commits
@@ -20,3 +21,9 @@ returns-in-Ok-commit-clause-commits g c =
     committed g.K.Keeper.TELLS g.J.Sharing.making g.J.Logs.log (lent_call c.args.call.now) c.args.seen.now c.commit.new.note store.store after.store
     (state store.keeper) (state after.keeper) c.in-Ok-commit.wrote c.requires.log master here c.in-Ok-commit.ensures.answer c.commit.ensures.grows
     c.in-Ok-commit.ensures.after c.in-Ok-commit.ensures.owes c.in-Ok-commit.ensures.done c.in-Ok-commit.ensures.store
+
+pub returns-in-Err-clause-refused : goal.returns-in-Err-clause-refused
+returns-in-Err-clause-refused g c =
+    commit_refused g.K.Keeper.state c.take_notes.new.store.keeper c.commit.new.store.keeper g.K.Keeper.TELLS
+    (asked_of_seen g.J.Sharing.making (write_shard c.args.call.now.write.now) c.commit.new.note.entries (lent_call c.args.call.now)) c.commit.result
+    c.in-Err.refusal c.faults.result c.refused_as.result c.in-Err.is c.commit.ensures.answer c.commit.ensures.done.calls c.refused_as.ensures

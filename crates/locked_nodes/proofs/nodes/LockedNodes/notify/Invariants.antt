@@ -1,5 +1,5 @@
 use Rattle.std.proofs.Common.{◌≡◌}
-use Rattle.locked_writes.proofs.locks.notify.Given as goal
+use Rattle.locked_nodes.proofs.nodes.LockedNodes.notify.Given as goal
 
 -- the note stays as it was
 abbrev pub invariant-loop-tier : goal.invariant-loop-tier

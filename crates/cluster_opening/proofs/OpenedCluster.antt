@@ -1,11 +1,13 @@
 -- What is known of a cluster that was made, and what its keepers show together.
-use Rattle.std.proofs.Common.{◌≡◌, ℕ, ◌<◌, Bool, IfErr, IfOk, List, Result, Ok, Err, length, Some, refl, ap, sym, subst, ◌∙◌, inl, inr, arith}
+use Rattle.std.proofs.Common.{◌≡◌, ℕ, ◌<◌, Bool, IfErr, IfOk, List, Result, Ok, Err, Some, refl, ap, sym, subst, ◌∙◌, ◌⊎◌, inl, inr, arith}
 use Rattle.std.proofs.lemmas.Option.{slice_get_cases}
 use Rattle.std.specs.Prelude.{slice_get, unwrap_or}
-use Rattle.core_nodes.specs.Opening.{RefusesOpening}
+use Rattle.locked_nodes.specs.core_nodes.Opening.{IsOpened, RefusesOpening}
+use Rattle.graph_model.specs.Told.{WhereTold}
 use Rattle.keepers.specs.Shown.{kept, shards_of, shown_by, strays_of, told_in}
 use Rattle.keepers.specs.declared.keepers.Keepers.{Keepers}
 use Rattle.replies.specs.declared.opening.OpenRefusal.{OpenRefusal}
+use Rattle.replies.specs.declared.opening.OpenRefusal.TheVariants as refusal
 use Rattle.shard_tables.specs.StoreView.{Store}
 use Rattle.shared_stores.specs.Making.{Making}
 use Rattle.tao_keeper.specs.KeeperState.{KeeperState}
@@ -54,3 +56,27 @@ module _ {M : Type 0} (tells : Bool) (state : M → KeeperState) (s : Settings) 
         (subst (λ (k : KeeperState). RefusesOpening tells s line (shown_by state before) k why)
         (shown_so state after s.shards (strays_of after) keepers shards refl kept_are) is);
   }
+
+  -- and that every store takes the line
+  pub begun_shown : {T E : Type 0} (line : List ℕ) (before after : Keepers M) (old keepers : List M) (r : Result T E)
+      → shown_by state before ≡ shown_in state s.shards 0 old → shards_of after ≡ s.shards → kept after ≡ keepers
+      → WhereTold tells (IfOk r (λ _. IsOpened s line (shown_by state before).told (shown_by state after).told))
+      → WhereTold tells (IfOk r (λ _. IsOpened s line (told_in state s.shards old) (told_in state s.shards keepers)))
+  begun_shown line before after old keepers (Ok t) was shards kept_are is = λ told.
+      subst (λ (k : KeeperState). IsOpened s line k.told (told_in state s.shards keepers)) was
+      (subst (λ (k : KeeperState). IsOpened s line (shown_by state before).told k.told)
+      (shown_so state after s.shards (strays_of after) keepers shards refl kept_are) (is told))
+  begun_shown line before after old keepers (Err e) was shards kept_are is = λ told. tt
+
+-- an opening that is refused for a keeper's fault may be said to be refused for want of memory
+pub less_cause : (tells : Bool) (s : Settings) (line : List ℕ) (old : KeeperState) (after : ℕ → KeeperState) (why said : OpenRefusal)
+    → (said ≡ why) ⊎ ((why ≡ refusal.KeeperFault) × (said ≡ refusal.OutOfMemory)) → RefusesOver tells s line old after why
+    → RefusesOver tells s line old after said
+less_cause tells s line old after why said is refuses = elim is [
+  | inl same ↦ subst (RefusesOver tells s line old after) (sym same) refuses
+  | inr less ↦ record {
+    strays = refuses.strays;
+    refused = subst (RefusesOpening tells s line old (after refuses.strays)) (sym less.1)
+        (subst (RefusesOpening tells s line old (after refuses.strays)) less.0 refuses.refused).1;
+  }
+]

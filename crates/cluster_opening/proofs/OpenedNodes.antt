@@ -1,17 +1,19 @@
 -- The leaders and followers that a cluster begins with may lie behind locks.
-use Rattle.std.proofs.Common.{◌≡◌, ℕ, zero, suc, List, [], ◌∷◌, refl, sym, subst}
+use Rattle.std.proofs.Common.{◌≡◌, ℕ, zero, suc, List, [], ◌∷◌, length, refl, ap, sym, subst, ◌∙◌}
+use Rattle.std.proofs.lemmas.List.{length-map}
 use Rattle.std.specs.List.{AllByRecursion}
-use Rattle.std.specs.Prelude.{slice_get}
 use Rattle.cache_items.specs.Node.{Node}
 use Rattle.core_model.specs.Consistent.{AreRight, AreSeen, IsFleetOf, IsNodeOf}
 use Rattle.core_model.specs.Fleet.{EachIs, Fleet}
 use Rattle.core_model.specs.Pens.{Pens, pens_of}
+use Rattle.core_model.specs.Stores.{store_count}
 use Rattle.core_model.specs.declared.named.Named.{Named}
+use Rattle.locked_nodes.specs.Room.{AreMany}
 use Rattle.log_names.specs.Names.{IsOfLog, LogNames}
 use Rattle.node_name.specs.declared.NodeName.{NodeName}
 use Rattle.served_shards.specs.Served.{ServedShard}
 use Rattle.shard_tables.specs.StoreView.{Store}
-use Rattle.shared_nodes.specs.Nodes.{IsSharedNode}
+use Rattle.locked_nodes.specs.shared_nodes.Nodes.{IsSharedNode}
 use Rattle.shared_stores.specs.Making.{Making}
 use Rattle.topology.specs.Config.{Settings}
 use Rattle.cluster_opening.specs.Opening.{MayBeShared, logs_of, making_of}
@@ -41,3 +43,12 @@ pub nodes_shared : (s : Settings) (f : Fleet) (cuts : List ℕ) (m : Making) (lo
     → IsFleetOf s f → MayBeShared m log f
 nodes_shared s f cuts m log m_is log_is is =
     subst (λ k. MayBeShared k log f) (sym m_is) (subst (λ l. MayBeShared (making_of s f.stores cuts) l f) (sym log_is) (may_be_shared s f cuts is))
+
+-- there are as many of them as of the configuration's names, and as many stores as it has
+pub nodes_many : (s : Settings) (f : Fleet) → IsFleetOf s f → length f.stores ≡ store_count s
+    → AreMany s (length f.leaders) (length f.followers) (length f.stores)
+nodes_many s f is stores = record {
+  leaders_are = sym (length-map f.leaders (λ n. n.name)) ∙ ap length is.leader_names;
+  followers_are = sym (length-map f.followers (λ n. n.name)) ∙ ap length is.follower_names;
+  stores_are = stores;
+}

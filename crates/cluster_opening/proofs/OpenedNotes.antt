@@ -1,5 +1,5 @@
 -- The notes of the stores of a cluster, and the stores with their keepers and notes, one after another.
-use Rattle.std.proofs.Common.{◌≡◌, ℕ, ◌+◌, ◌<◌, IfOk, List, [], ◌∷◌, ◌++◌, length, Result, Ok, Err, Some, refl, ap, sym, subst, ◌∙◌, inl, inr}
+use Rattle.std.proofs.Common.{◌≡◌, ℕ, ◌+◌, IfOk, List, [], ◌∷◌, ◌++◌, length, Result, Ok, Err, Some, refl, ap, sym, subst, ◌∙◌, inl, inr}
 use Rattle.std.proofs.Common.{arith, length-append}
 use Rattle.std.proofs.lemmas.Option.{slice_get_within}
 use Rattle.std.specs.Prelude.{slice_get}

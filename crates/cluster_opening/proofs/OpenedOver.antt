@@ -5,9 +5,9 @@ use Rattle.counts.specs.Count.{Rose}
 use Rattle.core_model.specs.Consistent.{IsConsistent}
 use Rattle.core_model.specs.Fleet.{Fleet}
 use Rattle.core_model.specs.Stores.{master_store, store_count}
-use Rattle.core_nodes.proofs.AskLemmas.{still_consistent}
-use Rattle.core_nodes.proofs.OpenedLogs.{opened_keep, refused_beginning}
-use Rattle.core_nodes.specs.Opening.{IsOpened, RefusesOpening, open_refusal}
+use Rattle.locked_nodes.proofs.core_nodes_lemmas.AskLemmas.{still_consistent}
+use Rattle.locked_nodes.proofs.core_nodes_lemmas.OpenedLogs.{opened_keep, refused_beginning}
+use Rattle.locked_nodes.specs.core_nodes.Opening.{IsOpened, RefusesOpening, open_refusal}
 use Rattle.graph_model.specs.Told.{WhereTold}
 use Rattle.replies.specs.declared.opening.OpenRefusal.TheVariants as refusal
 use Rattle.tao_keeper.specs.KeeperState.{IsLater, KeeperState}

@@ -1,36 +1,33 @@
 -- Each store of the nodes that a cluster begins with may lie behind a lock, with its keeper and its notes.
-use Rattle.std.proofs.Common.{◌≡◌, ◌≢◌, ℕ, ◌+◌, ◌*◌, ◌≤◌, ◌<◌, Bool, true, List, [], ◌∷◌, length, Option, Some, None, refl, ap, sym, subst, ◌∙◌, inl, inr}
+use Rattle.std.proofs.Common.{◌≡◌, ◌≢◌, ℕ, ◌≤◌, ◌<◌, Bool, true, List, [], length, Some, refl, ap, sym, subst, ◌∙◌, inl, inr}
 use Rattle.std.proofs.Common.{arith}
-use Rattle.std.proofs.Math.Nat.{le_refl}
 use Rattle.std.proofs.lemmas.Bool.{cases_Bool, cases_eq, cases_lt, eqb-true}
 use Rattle.std.proofs.lemmas.Option.{slice_get_cases, slice_get_past, slice_get_within, unwrap_or-slice_get}
 use Rattle.std.specs.Option.{option_map_or}
-use Rattle.std.specs.Prelude.{◌==◌, if◌then◌else◌, slice_get, slice_index_or, unwrap_or}
-use Rattle.graph_model.specs.Soundness.{EdgeUpdate, IsSoundOf}
+use Rattle.std.specs.Prelude.{◌==◌, if◌then◌else◌, slice_get, unwrap_or}
+use Rattle.graph_model.specs.Soundness.{IsSoundOf}
 use Rattle.graph_model.specs.Told.{WhereTold}
 use Rattle.core_model.proofs.FoundStores.{master_found, named_stands, same_name}
-use Rattle.core_model.proofs.Places.{one_some}
 use Rattle.core_model.proofs.Settled.{pen_of}
-use Rattle.core_model.specs.Consistent.{IsConsistent}
 use Rattle.core_model.specs.Fleet.{Fleet}
 use Rattle.core_model.specs.Pens.{pens_of, view_or_none}
-use Rattle.core_model.specs.Stores.{AreStoresOf, HaveMasterRegions, IsConfiguredStore, IsStoreAt, master_of, master_store, masters_of, role_in, store_place}
+use Rattle.core_model.specs.Stores.{HaveMasterRegions, IsConfiguredStore, IsStoreAt, master_of, master_store, masters_of, store_place}
 use Rattle.core_model.specs.Stores.{stores_in}
-use Rattle.core_nodes.proofs.KnownStores.{known_store}
+use Rattle.locked_nodes.proofs.core_nodes_lemmas.KnownStores.{known_store}
 use Rattle.keepers.specs.Shown.{place_of, told_in}
 use Rattle.locked_model.specs.Locked.{IsKept, Knowledge, begun_with}
 use Rattle.locked_model.specs.LockedLaws.{LocksBegin}
 use Rattle.log_names.specs.Names.{LogNames}
 use Rattle.master_tables.proofs.Calls.{tables_are_stores}
 use Rattle.master_tables.proofs.Each.{each_length}
-use Rattle.shard_log.specs.View.{Begins, Grows, View}
+use Rattle.shard_log.specs.View.{Begins, View}
 use Rattle.shard_tables.specs.StoreView.{Store}
 use Rattle.shard_tables.specs.Stores.{HasSeen}
 use Rattle.shard_tables.specs.declared.store.StoreRole.{StoreRole}
 use Rattle.shard_tables.specs.declared.store.StoreRole.TheVariants.{Master, Slave}
-use Rattle.shared_stores.specs.Locked.{AreNotesOf, IsNoteOf, IsSharedStore, KeepsMaster, KeepsSlave, entries_seen, known, locked}
+use Rattle.shared_stores.specs.Locked.{AreNotesOf, IsSharedStore, KeepsMaster, KeepsSlave, entries_seen, known, locked}
 use Rattle.shared_stores.specs.Making.{Making}
-use Rattle.tao_base.proofs.Tests.{apart-eqb, eqb-self, is_lower}
+use Rattle.tao_base.proofs.Tests.{apart-eqb, eqb-self}
 use Rattle.tao_base.specs.declared.entry.Entry.{Entry}
 use Rattle.tao_base.specs.declared.id.StoreName.{StoreName}
 use Rattle.tao_keeper.specs.KeeperState.{KeeperState}

@@ -4,18 +4,18 @@ use Rattle.core_model.specs.Consistent.{IsConsistent}
 use Rattle.core_model.specs.Fleet.{EachIs, Fleet}
 use Rattle.core_model.specs.Pens.{Pens, pens_of}
 use Rattle.core_model.specs.Stores.{IsConfiguredStore, master_store}
-use Rattle.core_nodes.specs.Opening.{RefusesOpening}
+use Rattle.locked_nodes.specs.core_nodes.Opening.{RefusesOpening}
 use Rattle.graph_model.specs.Told.{WhereTold}
 use Rattle.keepers.specs.Shown.{told_in, total}
+use Rattle.cluster_opening.specs.declared.opening.Noted.{Noted}
 use Rattle.log_names.specs.Names.{LogNames}
 use Rattle.replies.specs.declared.opening.OpenRefusal.{OpenRefusal}
 use Rattle.shard_log.specs.View.{View}
 use Rattle.shard_tables.specs.StoreView.{Store}
 use Rattle.shard_tables.specs.declared.store.StoreRole.{StoreRole}
 use Rattle.shard_tables.specs.declared.store.StoreRole.TheVariants.{Master, Slave}
-use Rattle.shared_nodes.specs.Nodes.{IsSharedNode}
+use Rattle.locked_nodes.specs.shared_nodes.Nodes.{IsSharedNode}
 use Rattle.shared_stores.specs.Making.{Making}
-use Rattle.cluster_opening.specs.declared.opening.Noted.{Noted}
 use Rattle.tao_base.specs.declared.id.StoreName.{StoreName}
 use Rattle.tao_keeper.specs.KeeperState.{KeeperState}
 use Rattle.tao_keeper.specs.Table.{Tables}

@@ -6,7 +6,11 @@
 //! The contracts that say so: `Opened::open`, `named`.
 #![tactic(auto)]
 
+mod counting;
 mod opening;
 mod placed;
 
+pub use counting::{faults_of, rose};
+pub use locked_nodes;
 pub use opening::{OpenFail, Opened};
+pub use placed::{PlacedKeepers, Places};

@@ -1,32 +1,35 @@
 //! The opening of a cluster: as a core is opened, over one keeper a store, and then each node and store is put behind a lock of its own.
 ghost use Rattle.std.specs.List.{AllByRecursion};
-ghost use Rattle.std.specs.Prelude.{◌≡◌, ◌≤◌, ◌<◌, ◌+◌, ◌++◌, ◌∷◌, [], IfErr, IfOk, IfSome, length, slice_get};
+ghost use Rattle.std.specs.Prelude.{◌≡◌, ◌≤◌, ◌<◌, ◌+◌, ◌⊎◌, ◌++◌, ◌∷◌, [], IfErr, IfOk, IfSome, length, slice_get};
 ghost use Rattle.std.specs.Vec.{vec_capacity, vec_len};
 ghost use Rattle.cluster_opening.specs.Opening.{AreCuts, AreEach, AreNotesFor, AreWholeNotes, HaveNotes, HaveTheirJobs, IsOpenedOver, IsWholeNote, MayBeShared};
 ghost use Rattle.cluster_opening.specs.Opening.{RefusesOver, logs_of, making_of, shown_in};
 ghost use Rattle.core_model.specs.Pens.{pens_of};
 ghost use Rattle.core_model.specs.Stores.{AreStores, master_store, store_count};
-ghost use Rattle.core_nodes.specs.Opening.{MayOpen, RefusesOpening, open_refusal};
+ghost use Rattle.locked_nodes.specs.core_nodes.Opening.{IsOpened, MayOpen, RefusesOpening, open_refusal};
+ghost use Rattle.counts.specs.Count.{Rose};
 ghost use Rattle.graph_model.specs.Told.{WhereTold};
-ghost use Rattle.keepers.specs.Shown.{told_in};
-ghost use Rattle.replies.specs.declared.opening.OpenRefusal.TheVariants.{OutOfMemory as NoMemory};
-ghost use Rattle.shared_nodes.specs.Nodes.{IsSharedNode};
+ghost use Rattle.keepers.specs.Shown.{told_in, total};
+ghost use Rattle.locked_nodes.specs.Room.{AreMany};
+ghost use Rattle.replies.specs.declared.opening.OpenRefusal.TheVariants.{KeeperFault as Faulted, OutOfMemory as NoMemory};
+ghost use Rattle.locked_nodes.specs.shared_nodes.Nodes.{IsSharedNode};
 ghost use Rattle.shared_stores.specs.Locked.{IsSharedStore, locked};
 ghost use Rattle.tao_keeper.specs.KeeperState.{CallsKeeper, KeepsTables};
 ghost use Rattle.tao_keeper.specs.declared.keeper.KeepFail.TheVariants.{Failed};
 ghost use Rattle.topology.specs.States.{all_up};
 
+use crate::counting::{faults_of, rose};
 use crate::placed::{PlacedKeepers, Places};
 use core_model::{Named, masters_are_regions, store_place};
-use core_nodes::{Fleet, FleetParts, master_store};
 use follower_cache::Follower;
 use leader_tier::Leader;
 use locked_model::locks_begin;
-use locked_nodes::{LockedNodes, LockedParts, Tiered};
+use locked_nodes::core_nodes::{Fleet, FleetParts, master_store};
+use locked_nodes::shared_nodes::{SharedFollower, SharedLeader};
+use locked_nodes::{LockedNodes, LockedParts, Room, RoomParts, Tiered, put_last};
 use replies::OpenRefusal;
 use shard_tables::{StoreNode, StoreRole};
 use shared_inbox::SharedInbox;
-use shared_nodes::{SharedFollower, SharedLeader};
 use shared_stores::{CountedNote, SharedStore, Sharing};
 use std::alloc::Global;
 use std::marker::Brand;
@@ -83,7 +86,8 @@ struct Parts<K: Keeper, J: Sharing> {
     followers: Vec<LockedFollower<J>>,
     stores: Vec<StoreNode>,
     noted: Vec<Noted>,
-    room: Vec<Mutex<SharedStore<K, J>>>,
+    shared: Vec<Mutex<SharedStore<K, J>>>,
+    room: Room<K, J>,
 }
 
 fn refusal_of(fail: KeepFail) -> OpenRefusal
@@ -92,6 +96,24 @@ fn refusal_of(fail: KeepFail) -> OpenRefusal
     match fail {
         KeepFail::Failed => OpenRefusal::KeeperFault,
         KeepFail::OutOfMemory => OpenRefusal::OutOfMemory,
+    }
+}
+
+/// Why an opening is refused, where a keeper's fault is said only as their counts, added up, rose. It can't be said else: no call is made on a store that no
+/// keeper stands for.
+fn with_cause(why: OpenRefusal, before: u64, now: u64) -> OpenRefusal
+    ensures same { (result ≡ why) ⊎ ((why ≡ Faulted) × (result ≡ NoMemory)) }
+    ensures cause { result ≡ Faulted → Rose before now }
+{
+    match why {
+        OpenRefusal::KeeperFault => {
+            if rose(before, now) {
+                why
+            } else {
+                OpenRefusal::OutOfMemory
+            }
+        }
+        _ => why,
     }
 }
 
@@ -128,6 +150,7 @@ fn open_over<K: Keeper>(
     requires kept { WhereTold K.TELLS (MayOpen config.now line.now (K.state keepers.old).told) }
     requires jobs { WhereTold K.TELLS (HaveTheirJobs config.now (K.state keepers.old).told) }
     ensures opened { IfOk result (λ begun. IsOpenedOver K.TELLS config.now (K.state keepers.new).told begun.fleet begun.cuts.items) }
+    ensures begun { WhereTold K.TELLS (IfOk result (λ _. IsOpened config.now line.now (K.state keepers.old).told (K.state keepers.new).told)) }
     ensures refused { IfErr result (RefusesOpening K.TELLS config.now line.now (K.state keepers.old) (K.state keepers.new)) }
 {
     let fleet = Fleet::open(alloc, config, line, keepers)?;
@@ -154,6 +177,8 @@ fn open_placed<K: Keeper, P: Places>(
     ensures many { length result.keepers.items ≡ length keepers.items }
     ensures opened { IfOk result.opened (λ begun.
         IsOpenedOver K.TELLS config.now (told_in K.state config.now.shards result.keepers.items) begun.fleet begun.cuts.items) }
+    ensures begun { WhereTold K.TELLS (IfOk result.opened (λ _. IsOpened config.now line.now (told_in K.state config.now.shards keepers.items)
+        (told_in K.state config.now.shards result.keepers.items))) }
     ensures refused { IfErr result.opened (RefusesOver K.TELLS config.now line.now (shown_in K.state config.now.shards 0 keepers.items)
         (λ strays. shown_in K.state config.now.shards strays result.keepers.items)) }
 {
@@ -273,6 +298,7 @@ fn lock_leaders<J: Sharing>(
     leaders: Vec<Named<Leader>>,
 ) -> Result<Vec<LockedLeader<J>>, OutOfMemory>
     requires { AllByRecursion (λ leader. IsSharedNode J.making J.log leader.name leader.node) leaders.items }
+    ensures many { IfOk result (λ shared. vec_len shared ≡ length leaders.items) }
 {
     let mut shared = Vec::new(alloc);
     for leader in leaders {
@@ -303,6 +329,7 @@ fn lock_followers<J: Sharing>(
     followers: Vec<Named<Follower>>,
 ) -> Result<Vec<LockedFollower<J>>, OutOfMemory>
     requires { AllByRecursion (λ follower. IsSharedNode J.making J.log follower.name follower.node.node) followers.items }
+    ensures many { IfOk result (λ shared. vec_len shared ≡ length followers.items) }
 {
     let mut shared = Vec::new(alloc);
     for follower in followers {
@@ -311,37 +338,60 @@ fn lock_followers<J: Sharing>(
     Ok(shared)
 }
 
+/// Room for so many nodes, and stores with their keepers and notes.
+fn make_room<K: Drop, J: Sharing>(
+    alloc: Global,
+    leaders: usize,
+    followers: usize,
+    stores: usize,
+) -> Result<Room<K, J>, OutOfMemory>
+    requires many { AreMany J.making.settings leaders followers stores }
+{
+    Ok(Room::of(RoomParts {
+        leaders: Vec::with_capacity(alloc, leaders)?,
+        followers: Vec::with_capacity(alloc, followers)?,
+        stores: Vec::with_capacity(alloc, stores)?,
+        keepers: Vec::with_capacity(alloc, stores)?,
+        noted: Vec::with_capacity(alloc, stores)?,
+    }))
+}
+
 /// All of a cluster that takes memory.
-fn make_parts<K: Keeper, J: Sharing>(
+fn make_parts<K: Keeper + Drop, J: Sharing>(
     alloc: Global,
     config: &Config,
     fleet: Fleet,
 ) -> Result<Parts<K, J>, OutOfMemory>
     requires nodes { MayBeShared J.making J.log fleet }
     requires stores { AreStores config.now (store_count config.now) fleet.stores }
+    requires many { AreMany J.making.settings (length fleet.leaders) (length fleet.followers) (length fleet.stores) }
     ensures topology { IfOk result (λ parts. parts.topology ≡ all_up config.now) }
+    ensures leaders { IfOk result (λ parts. vec_len parts.leaders ≡ length fleet.leaders) }
+    ensures followers { IfOk result (λ parts. vec_len parts.followers ≡ length fleet.followers) }
     ensures stores { IfOk result (λ parts. parts.stores.items ≡ fleet.stores) }
     ensures noted { IfOk result (λ parts.
         HaveNotes (pens_of fleet.stores) config.now.shards fleet.stores (length fleet.stores) parts.noted.items) }
-    ensures empty { IfOk result (λ parts. vec_len parts.room ≡ 0) }
-    ensures room { IfOk result (λ parts. length fleet.stores ≤ vec_capacity parts.room) }
+    ensures empty { IfOk result (λ parts. vec_len parts.shared ≡ 0) }
+    ensures room { IfOk result (λ parts. length fleet.stores ≤ vec_capacity parts.shared) }
 {
     let FleetParts {
         leaders,
         followers,
         mut stores,
     } = fleet.into_parts();
+    let room = make_room::<K, J>(alloc, leaders.len(), followers.len(), stores.len())?;
     let leaders = lock_leaders::<J>(alloc, leaders)?;
     let followers = lock_followers::<J>(alloc, followers)?;
     let topology = Topology::make(alloc, config)?;
     let noted = all_notes(alloc, config, &mut stores)?;
-    let room = Vec::with_capacity(alloc, stores.len())?;
+    let shared = Vec::with_capacity(alloc, stores.len())?;
     Ok(Parts {
         topology,
         leaders,
         followers,
         stores,
         noted,
+        shared,
         room,
     })
 }
@@ -354,18 +404,6 @@ fn take_last<T>(all: &mut Vec<T>) -> T
     match all.pop() {
         Some(last) => last,
         None => unreachable!(),
-    }
-}
-
-/// Adds one where there is room for it. Takes no memory.
-fn put_last<T>(all: &mut Vec<T>, last: T)
-    requires { vec_len all.old < vec_capacity all.old }
-    ensures len { vec_len all.new ≡ vec_len all.old + 1 }
-    ensures room { vec_capacity all.old ≤ vec_capacity all.new }
-{
-    match all.push(last) {
-        Ok(()) => (),
-        Err(_) => unreachable!(),
     }
 }
 
@@ -392,6 +430,7 @@ fn lock_stores<K: Keeper + Drop, J: Sharing>(
         stores.items keepers.items noted.items }
     requires empty { vec_len room ≡ 0 }
     requires room { length stores.items ≤ vec_capacity room }
+    ensures many { vec_len result ≡ length stores.items }
 {
     let mut stores = stores;
     let mut keepers = keepers;
@@ -426,10 +465,15 @@ impl<'c, K: Keeper> Opened<'c, K> {
         ensures many { IfOk result (λ opened. length opened.keepers.items ≡ store_count config.now) }
         ensures opened { IfOk result (λ opened.
             IsOpenedOver K.TELLS config.now (told_in K.state config.now.shards opened.keepers.items) opened.fleet opened.cuts.items) }
+        ensures begun { WhereTold K.TELLS (IfOk result (λ opened. IsOpened config.now line.now (told_in K.state config.now.shards keepers.items)
+            (told_in K.state config.now.shards opened.keepers.items))) }
         ensures back { IfErr result (λ fail. length fail.keepers.items ≡ store_count config.now) }
         ensures refused { IfErr result (λ fail. RefusesOver K.TELLS config.now line.now (shown_in K.state config.now.shards 0 keepers.items)
             (λ strays. shown_in K.state config.now.shards strays fail.keepers.items) fail.why) }
+        ensures own { IfErr result (λ fail. fail.why ≡ Faulted
+            → Rose (total (λ keeper. (K.state keeper).faults) 0 keepers.items) (total (λ keeper. (K.state keeper).faults) 0 fail.keepers.items)) }
     {
+        let before = faults_of(&keepers);
         let Tried { opened, keepers } = open_placed::<K, Brand>(alloc, config, line, keepers);
         match opened {
             Ok(OpenedFleet { fleet, cuts }) => Ok(Opened {
@@ -439,7 +483,10 @@ impl<'c, K: Keeper> Opened<'c, K> {
                 keepers,
                 cuts,
             }),
-            Err(why) => Err(OpenFail { why, keepers }),
+            Err(why) => Err(OpenFail {
+                why: with_cause(why, before, faults_of(&keepers)),
+                keepers,
+            }),
         }
     }
 }
@@ -454,7 +501,7 @@ impl<'c, K: Keeper + Drop> Opened<'c, K> {
         requires opened { IsOpenedOver K.TELLS self.config.now (told_in K.state self.config.now.shards self.keepers.items) self.fleet self.cuts.items }
         requires log { J.log ≡ logs_of self.fleet.stores }
         requires making { J.making ≡ making_of self.config.now self.fleet.stores self.cuts.items }
-        ensures config { IfOk result (λ nodes. nodes ≡ self.entry.config.now) }
+        ensures config { IfOk result (λ nodes. nodes.settings ≡ self.entry.config.now) }
         ensures why { IfErr result (λ fail. fail.why ≡ NoMemory) }
         ensures back { IfErr result (λ fail. fail.keepers.items ≡ self.entry.keepers.items) }
     {
@@ -475,9 +522,10 @@ impl<'c, K: Keeper + Drop> Opened<'c, K> {
                     followers,
                     stores,
                     noted,
+                    shared,
                     room,
                 } = parts;
-                let stores = lock_stores(stores, keepers, noted, room);
+                let stores = lock_stores(stores, keepers, noted, shared);
                 Ok(LockedNodes::of(LockedParts {
                     alloc,
                     config,
@@ -486,6 +534,7 @@ impl<'c, K: Keeper + Drop> Opened<'c, K> {
                     followers,
                     stores,
                     cuts,
+                    room: Mutex::new(room),
                 }))
             }
             Err(OutOfMemory) => Err(OpenFail {

@@ -36,4 +36,15 @@ loop-store-preserved g c = record {
       let len = c.put_last.ensures.len in
       let kept = c.put_last.ensures.room in
       omega (arith, room, len, kept, ap length c.in-Some.ensures.items, length-append c.pop.new.self.items (c.in-Some.store ∷ [])));
+  many = (
+      let many = c.loop-store.invariant.many in
+      let len = c.put_last.ensures.len in
+      omega (arith, many, len, ap length c.in-Some.ensures.items, length-append c.pop.new.self.items (c.in-Some.store ∷ [])));
+}
+
+pub returns : goal.returns
+returns g c = record {
+  many = (
+      let many = c.loop-store.invariant.many in
+      omega (arith, many, c.in_default.ensures.cases.0, c.loop-store.stores.ok.0));
 }

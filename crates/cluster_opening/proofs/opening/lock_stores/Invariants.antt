@@ -1,4 +1,4 @@
-use Rattle.std.proofs.Common.{◌+◌, ◌≤◌, length}
+use Rattle.std.proofs.Common.{◌≡◌, ◌+◌, ◌≤◌, length}
 use Rattle.std.specs.Vec.{vec_capacity, vec_len}
 use Rattle.shared_stores.specs.Locked.{IsSharedStore, locked}
 use Rattle.cluster_opening.specs.Opening.{AreEach}
@@ -10,6 +10,7 @@ invariant-loop-store g l = record {
   shared : AreEach (λ store keeper notes. IsSharedStore g.K.Keeper.TELLS g.J.Sharing.making g.J.Logs.log (locked store (g.K.Keeper.state keeper).told notes))
       l.stores.items l.keepers.items l.noted.items;
   room : vec_len l.shared + length l.stores.items ≤ vec_capacity l.shared;
+  many : vec_len l.shared + length l.stores.items ≡ length l.fn.stores.items;
 }
 
 -- one less is left in each turn

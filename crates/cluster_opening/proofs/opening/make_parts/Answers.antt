@@ -4,7 +4,7 @@ use Rattle.std.specs.List.{AllByRecursion}
 use Rattle.cache_items.specs.Node.{Node}
 use Rattle.core_model.specs.declared.named.Named.{Named}
 use Rattle.follower_cache.specs.Seen.{FollowerState}
-use Rattle.shared_nodes.specs.Nodes.{IsSharedNode}
+use Rattle.locked_nodes.specs.shared_nodes.Nodes.{IsSharedNode}
 use Rattle.cluster_opening.proofs.OpenedNodes.{each_in}
 use Rattle.cluster_opening.proofs.opening.make_parts.Goals as goal
 

@@ -1,10 +1,8 @@
-use Rattle.std.proofs.Common.{◌∙◌, ap, refl, subst, sym}
-use Rattle.std.proofs.lemmas.Result.{IfErr-weaker, IfOk-weaker}
-use Rattle.core_nodes.specs.Opening.{MayOpen}
-use Rattle.keepers.specs.Shown.{strays_of}
+use Rattle.std.proofs.Common.{◌∙◌, ap, subst, sym}
+use Rattle.locked_nodes.specs.core_nodes.Opening.{MayOpen}
 use Rattle.tao_keeper.specs.KeeperState.{KeeperState}
 use Rattle.topology.specs.Config.{Settings}
-use Rattle.cluster_opening.proofs.OpenedCluster.{opened_shown, refused_shown, shown_so}
+use Rattle.cluster_opening.proofs.OpenedCluster.{begun_shown, opened_shown, refused_shown, shown_so}
 use Rattle.cluster_opening.specs.Opening.{HaveTheirJobs}
 use Rattle.cluster_opening.proofs.opening.open_placed.Goals as goal
 
@@ -36,3 +34,14 @@ returns-clause-refused g c =
     refused_shown g.K.Keeper.TELLS g.K.Keeper.state s c.args.line.now c.of-placed.result.keepers after.keepers c.args.keepers.items
     c.into_keepers.result.items c.open_over-opened.result same (after.shards ∙ sym c.requires.shards) (sym c.into_keepers.ensures.kept)
     c.open_over-opened.ensures.refused
+
+pub returns-clause-begun : goal.returns-clause-begun
+returns-clause-begun g c =
+    let s = c.args.config.now in
+    let after = c.open_over-opened.new.keepers in
+    let shards = c.of-placed.ensures.shards ∙ ap (λ (n : Settings). n.shards) c.config.view_is in
+    let same = shown_so g.K.Keeper.state c.of-placed.result.keepers s.shards 0 c.args.keepers.items shards c.of-placed.ensures.strays
+    c.of-placed.ensures.kept in
+    begun_shown g.K.Keeper.TELLS g.K.Keeper.state s c.args.line.now c.of-placed.result.keepers after.keepers c.args.keepers.items
+    c.into_keepers.result.items c.open_over-opened.result same (after.shards ∙ sym c.requires.shards) (sym c.into_keepers.ensures.kept)
+    c.open_over-opened.ensures.begun

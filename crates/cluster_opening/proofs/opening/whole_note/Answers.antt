@@ -2,7 +2,7 @@ use Rattle.std.proofs.Common.{◌∙◌, ap, sym}
 use Rattle.std.proofs.lemmas.Option.{slice_get-get_or}
 use Rattle.std.specs.Prelude.{slice_index_or}
 use Rattle.core_model.specs.Stores.{store_place}
-use Rattle.core_nodes.proofs.BeginLemmas.{master_within, pen_at}
+use Rattle.locked_nodes.proofs.core_nodes_lemmas.BeginLemmas.{master_within, pen_at}
 use Rattle.leader_tier.proofs.LegalReads.{role_log}
 use Rattle.shard_log.specs.View.{View}
 use Rattle.shard_tables.specs.StoreView.{Store}

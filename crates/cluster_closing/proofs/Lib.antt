@@ -1,0 +1,3 @@
+pub mod FreedKeepers
+pub mod FreedStores
+pub mod MeetsClosed

@@ -24,7 +24,7 @@ drawn_is_call names number AssocCount state = refl
 drawn_is_call names number Deliver state = refl
 drawn_is_call names number Stream state = refl
 
-is_drawn_call : (names : NameLists) (number state : ℕ) → is_call (call_in names number state).0 ≡ true
+pub is_drawn_call : (names : NameLists) (number state : ℕ) → is_call (call_in names number state).0 ≡ true
 is_drawn_call names number state = drawn_is_call names number (kind_of (below 10 state).0) (below 10 state).1
 
 one_counted : (request : Request) (requests : List Request) → is_call request ≡ true → calls_in (request ∷ requests) ≡ 1 + calls_in requests

@@ -18,7 +18,7 @@ pub fn is_settle(request: &Request) -> bool
 }
 
 /// Whether a request is a call: neither a session's opening nor the settling.
-fn is_call(request: &Request) -> bool
+pub fn is_call(request: &Request) -> bool
     ensures { result ≡ is_call request.now }
 {
     match request {

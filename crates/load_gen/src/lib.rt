@@ -17,5 +17,5 @@ mod names;
 mod nodes;
 mod workload;
 
-pub use counting::{is_settle, refusals, summary};
+pub use counting::{is_call, is_settle, refusals, summary};
 pub use workload::Workload;

@@ -1,0 +1,6 @@
+mod AuditLemmas
+mod CheckedWrites
+mod LastRecords
+mod Meeting
+mod PlaceLemmas
+mod SameEdges

@@ -1,0 +1,9 @@
+pub mod Auditing
+pub mod Audits
+pub mod Counting
+pub mod Listed
+pub mod LiveEdges
+pub mod LiveLaws
+pub mod Logged
+pub mod Numbered
+pub mod Places

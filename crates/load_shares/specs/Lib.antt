@@ -1,0 +1,4 @@
+pub mod Adding
+pub mod Seen
+pub mod Tallies
+pub mod Turns

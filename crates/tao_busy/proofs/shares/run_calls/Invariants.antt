@@ -1,0 +1,17 @@
+use Rattle.std.proofs.Common.{◌≤◌}
+use Rattle.shared_tiers.specs.cluster_pumps.Hands.{IsHandOf}
+use Rattle.shared_tiers.specs.locked_nodes.Passes.{IsPassOf}
+use Rattle.load_shares.specs.Seen.{EachPass}
+use Rattle.tao_busy.specs.Hands.{EachHand}
+use Rattle.tao_busy.proofs.Running.{MissesSoFar}
+use Rattle.tao_busy.proofs.shares.run_calls.Given as goal
+
+-- the thread goes on as it began, and of the calls so far no more additions are missed than were refused
+abbrev pub invariant-loop-request : goal.invariant-loop-request
+invariant-loop-request g l = record {
+  passes : EachPass (IsPassOf g.J.Sharing.making g.J.Logs.log) l.worker.passes.items;
+  hands : EachHand (IsHandOf g.J.Sharing.making l.cluster) l.worker.hands.items;
+  few : l.tally.refused ≤ l.request-index;
+  numbers : l.number ≤ l.request-index;
+  misses : MissesSoFar g.K.Keeper.TELLS l.turn.threads l.turn.place l.requests l.request-index l.number l.tally.refused l.worker.passes.items;
+}

@@ -1,0 +1,26 @@
+//! The calls of a generated workload, made by many threads over one cluster.
+//!
+//! Each thread makes the calls of its turn, by passes and hands of its own. Then the cluster is closed and settled, all that the threads were told is met with
+//! its logs, and these are read.
+//!
+//! What it promises. With a summary the tables are settled and paired; the lengths of the logs, and the edges that these leave live, are those that it tells;
+//! each client's entry is of one of the workload's requests; and of its additions no more are in no log than calls were refused. Else the cause is told, and
+//! the keepers come back, one for each store. A gate is told of reads while no lock is held.
+//!
+//! The contracts that say so: `load`.
+#![tactic(auto)]
+
+mod asked;
+mod ending;
+mod gate;
+mod hands;
+mod link;
+mod loading;
+mod meeting;
+mod sessions;
+mod shares;
+mod taking;
+
+pub use asked::{BusyRefusal, LoadAsked, LoadSummary};
+pub use gate::{Gate, NoGate};
+pub use loading::load;

@@ -5,7 +5,10 @@
 //!
 //! What it promises. With a summary the tables are settled and paired; the lengths of the logs, and the edges that these leave live, are those that it tells;
 //! each client's entry is of one of the workload's requests; and of its additions no more are in no log than calls were refused. Else the cause is told, and
-//! the keepers come back, one for each store. A gate is told of reads while no lock is held.
+//! the keepers come back, one for each store.
+//!
+//! Not said by any contract: when a gate is told of a read, that no call is refused where nothing was full, and which entries the logs have where there is
+//! no summary.
 //!
 //! The contracts that say so: `load`.
 #![tactic(auto)]

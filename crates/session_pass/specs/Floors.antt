@@ -16,6 +16,10 @@ pub record FloorTable : Type 0 where
 abbrev pub floor_at : List (Key × ℕ) → Key → ℕ
 floor_at floors key = unwrap_or (lookup (same_key key) floors) 0
 
+-- no key has a floor
+pub record HasNoFloors (floors : List (Key × ℕ)) : Type 0 where
+  pub none : (key : Key) → floor_at floors key ≡ 0
+
 -- the floors after a version of a key was learnt. A key that has a floor keeps its place
 abbrev pub with_learnt : Key → ℕ → List (Key × ℕ) → List (Key × ℕ)
 with_learnt key version floors = if nat_lt (floor_at floors key) version then insert_entry same_key floors key version else floors

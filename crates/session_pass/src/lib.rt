@@ -5,7 +5,7 @@
 //! greater of the touch's version and what it was, and no other floor changes; after `reserve` two entries, or
 //! sixteen calls of `learn`, need nothing more.
 //!
-//! The contracts that say so: `Pass::learn_entry`, `learn`, `see`, `reserve`, `floor`, `note`;
+//! The contracts that say so: `Pass::learn_entry`, `learn`, `see`, `reserve`, `floor`, `name`, `note`;
 //! `floors_are_reached`.
 #![tactic(auto)]
 

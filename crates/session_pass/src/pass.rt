@@ -45,7 +45,7 @@ impl Pass {
     ghost use Rattle.graph_model.specs.Log.{entry_at};
     ghost use Rattle.graph_model.specs.Told.{WhereTold};
     ghost use Rattle.tao_base.specs.Keys.{key_shard};
-    ghost use Rattle.session_pass.specs.Floors.{FloorsRise, Learns, floor_at, with_learnt};
+    ghost use Rattle.session_pass.specs.Floors.{FloorsRise, Learns, HasNoFloors, floor_at, with_learnt};
     ghost use Rattle.session_pass.specs.Passes.{HasReached, IsNoteOf, LearnsEntry, MeetsNote, ReachesIn, after_meeting, learnt, new_pass};
 
     /// The pass of a session of a tier, by its place in its region, which was told of nothing yet. It has a note for
@@ -96,6 +96,17 @@ impl Pass {
         ensures reached { HasReached self.now.notes key result }
     {
         self.floors.at(&key)
+    }
+
+    /// Gives a pass that was told of nothing yet to another session, by its number, of a tier, by its place in its region. What the pass has seen stays. Takes no
+    /// memory.
+    pub fn name(&mut self, session: u32, region: u16, tier: u16)
+        requires untold { HasNoFloors self.old.floors }
+        ensures named { self.new ≡ record self.old { session = session; region = region; tier = tier } }
+    {
+        self.session = session;
+        self.region = region;
+        self.tier = tier;
     }
 
     /// Makes room for sixteen keys, those of the two entries of a write. The one error is out of memory, which leaves the pass as it

@@ -19,13 +19,29 @@ number_rule name least most = record (new_rule name) { long = Some name; parser 
 abbrev pub named_number : List ℕ → ℕ → ℕ → Rule
 named_number name least most = record (number_rule name least most) { value_names = 1 }
 
--- `gen --seed N`: any seed of 64 bits
-abbrev pub seed_app : App
-seed_app = with_rule (new_app (codes "gen")) (named_number (codes "seed") 0 (2 ^ 64 - 1))
+-- `--seed N`: any seed of 64 bits
+abbrev pub seed_rule : Rule
+seed_rule = named_number (codes "seed") 0 (2 ^ 64 - 1)
 
--- `gen --seed N --calls N`: from 1 to 100,000 calls
+-- `--calls N`: from 1 to 100,000 calls
+abbrev pub calls_rule : Rule
+calls_rule = named_number (codes "calls") 1 100000
+
+-- `--threads N`: from 1 to 16 threads
+abbrev pub threads_rule : Rule
+threads_rule = named_number (codes "threads") 1 16
+
+-- `gen --seed N --calls N`
 abbrev pub gen_shape : Shape
-gen_shape = (with_rule seed_app (named_number (codes "calls") 1 100000)).top
+gen_shape = (with_rule (with_rule (new_app (codes "gen")) seed_rule) calls_rule).top
+
+-- `load --seed N --calls N`
+abbrev pub threadless_app : App
+threadless_app = with_rule (with_rule (new_app (codes "load")) seed_rule) calls_rule
+
+-- `load --seed N --calls N --threads N`
+abbrev pub load_shape : Shape
+load_shape = (with_rule threadless_app threads_rule).top
 
 -- the program without its subcommands: the words don't begin with its name, and one of the subcommands is needed
 abbrev pub bare_app : App
@@ -39,9 +55,9 @@ bare_app = record {
   subs = [];
 }
 
--- the program with its subcommands, `run` and `gen`
+-- the program with its subcommands, `run`, `gen` and `load`
 abbrev pub tao_app : App
-tao_app = with_subcommand (with_subcommand bare_app run_shape) gen_shape
+tao_app = with_subcommand (with_subcommand (with_subcommand bare_app run_shape) gen_shape) load_shape
 
 -- the kinds of faults that the words have: none where they are the program's
 unfoldable pub faults_in : List Text → Kinds

@@ -1,7 +1,8 @@
 //! The command that the program's words are read by.
 ghost use Rattle.std.specs.Prelude.{◌≡◌, IfOk, false, map, string_bytes};
-ghost use Rattle.clap.specs.Words.{FailsBy, app_of, rule_of, shape_of, subcommand_rows_of, with_subcommand};
-ghost use Rattle.command_words.specs.CommandLine.{bare_app, faults_in, gen_shape, number_rule, run_shape, seed_app, subcommand_in, tao_app};
+ghost use Rattle.clap.specs.Words.{FailsBy, app_of, rule_of, shape_of, subcommand_rows_of, with_rule, with_subcommand};
+ghost use Rattle.command_words.specs.CommandLine.{bare_app, calls_rule, faults_in, gen_shape, load_shape, number_rule, run_shape};
+ghost use Rattle.command_words.specs.CommandLine.{seed_rule, subcommand_in, tao_app, threadless_app};
 ghost use Rattle.clap.specs.declared.builder.command.Command.TheViews.{out-Command as fields_of};
 
 use clap::builder::ValueParser;
@@ -14,8 +15,15 @@ const EXAMPLE: &str = "Example: tao run < examples/tour.jsonl";
 /// What stands below the help of `gen`.
 const GEN_EXAMPLE: &str = "Example: tao gen --seed 7 --calls 2000 < examples/realistic.jsonl";
 
+/// What stands below the help of `load`.
+const LOAD_EXAMPLE: &str =
+    "Example: tao load --seed 7 --calls 2000 --threads 2 < examples/realistic.jsonl";
+
 /// The most calls that a generated run has.
 const MAX_CALLS: u64 = 100_000;
+
+/// The most threads that make calls.
+const MAX_THREADS: u64 = 16;
 
 /// The subcommand that serves standard input.
 fn run_command<'a>(alloc: Global) -> Result<Command<'a>, AllocError>
@@ -46,18 +54,22 @@ fn number_arg<'a>(alloc: Global, name: &'a str, least: u64, most: u64) -> Arg<'a
         .value_parser(ValueParser::unsigned(least, most))
 }
 
-/// `gen` with the option that names the seed.
-fn seed_command<'a>(alloc: Global) -> Result<Command<'a>, AllocError>
-    ensures app { IfOk result (λ c. app_of c ≡ seed_app) }
-    ensures local { IfOk result (λ c. (fields_of c).has_globals ≡ false) }
+/// The command with the option that names the seed.
+fn with_seed<'a>(alloc: Global, command: Command<'a>) -> Result<Command<'a>, AllocError>
+    ensures app { IfOk result (λ c. app_of c ≡ with_rule (app_of command.entry) seed_rule) }
+    ensures local { (fields_of command.entry).has_globals ≡ false → IfOk result (λ c. (fields_of c).has_globals ≡ false) }
 {
     let seed = number_arg(alloc, "seed", 0, u64::MAX);
-    let made = Command::new(alloc, "gen")
-        .about(
-            "Reads a configuration line, makes the requests that a seed determines, and writes how many calls were refused, and the settled logs",
-        )
-        .after_help(GEN_EXAMPLE);
-    made.arg(seed.value_name("N").help("The seed of the requests"))
+    command.arg(seed.value_name("N").help("The seed of the requests"))
+}
+
+/// The command with the option that says how many calls are made.
+fn with_calls<'a>(alloc: Global, command: Command<'a>) -> Result<Command<'a>, AllocError>
+    ensures app { IfOk result (λ c. app_of c ≡ with_rule (app_of command.entry) calls_rule) }
+    ensures local { (fields_of command.entry).has_globals ≡ false → IfOk result (λ c. (fields_of c).has_globals ≡ false) }
+{
+    let calls = number_arg(alloc, "calls", 1, MAX_CALLS);
+    command.arg(calls.value_name("N").help("How many calls are made"))
 }
 
 /// The subcommand that makes its requests itself.
@@ -65,9 +77,41 @@ fn gen_command<'a>(alloc: Global) -> Result<Command<'a>, AllocError>
     ensures shape { IfOk result (λ c. shape_of c ≡ gen_shape) }
     ensures local { IfOk result (λ c. (fields_of c).has_globals ≡ false) }
 {
-    let calls = number_arg(alloc, "calls", 1, MAX_CALLS);
-    let seeded = seed_command(alloc)?;
-    seeded.arg(calls.value_name("N").help("How many calls are made"))
+    let made = Command::new(alloc, "gen")
+        .about(
+            "Reads a configuration line, makes the requests that a seed determines, and writes how many calls were refused, and the settled logs",
+        )
+        .after_help(GEN_EXAMPLE);
+    let seeded = with_seed(alloc, made)?;
+    with_calls(alloc, seeded)
+}
+
+/// The subcommand whose requests threads make, without the number of these.
+fn threadless_command<'a>(alloc: Global) -> Result<Command<'a>, AllocError>
+    ensures app { IfOk result (λ c. app_of c ≡ threadless_app) }
+    ensures local { IfOk result (λ c. (fields_of c).has_globals ≡ false) }
+{
+    let made = Command::new(alloc, "load")
+        .about(
+            "Reads a configuration line, makes the requests that a seed determines on threads, and writes what the settled logs have, and how many calls were refused",
+        )
+        .after_help(LOAD_EXAMPLE);
+    let seeded = with_seed(alloc, made)?;
+    with_calls(alloc, seeded)
+}
+
+/// The subcommand whose requests threads make.
+fn load_command<'a>(alloc: Global) -> Result<Command<'a>, AllocError>
+    ensures shape { IfOk result (λ c. shape_of c ≡ load_shape) }
+    ensures local { IfOk result (λ c. (fields_of c).has_globals ≡ false) }
+{
+    let threads = number_arg(alloc, "threads", 1, MAX_THREADS);
+    let counted = threadless_command(alloc)?;
+    counted.arg(
+        threads
+            .value_name("N")
+            .help("How many threads make the calls"),
+    )
 }
 
 /// The program with `run`.
@@ -98,8 +142,10 @@ fn tao_command<'a>(alloc: Global) -> Result<Command<'a>, AllocError>
     ensures { IfOk result (λ c. app_of c ≡ tao_app) }
 {
     let made = gen_command(alloc)?;
+    let loaded = load_command(alloc)?;
     let tao = described(bare_command(alloc)?);
-    tao.subcommand(made)
+    let tao = tao.subcommand(made)?;
+    tao.subcommand(loaded)
 }
 
 /// What the words are for the command.

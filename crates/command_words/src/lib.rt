@@ -1,9 +1,9 @@
 //! The words of a command line: what they ask the program to do.
 //!
-//! What it promises. Words ask for a run, with a file or without, exactly where the parse of the command line has
-//! no fault; every refusal but out of memory is a usage.
+//! What it promises. Words ask for a run, with a file or without, for made requests, or for these on threads, exactly where the
+//! parse of the command line has no fault; every refusal but out of memory is a usage.
 //!
-//! The contracts that say so: `read_words`, `asked_text`; `words_by_example`.
+//! The contracts that say so: `read_program_words`, `read_words`, `asked_text`; `words_by_example`.
 #![tactic(auto)]
 
 mod asked;
@@ -13,4 +13,4 @@ mod read;
 
 pub use asked::asked_text;
 pub use examples::words_by_example;
-pub use read::{Words, WordsRefusal, read_words};
+pub use read::{LoadWords, ProgramWords, Words, WordsRefusal, read_program_words, read_words};

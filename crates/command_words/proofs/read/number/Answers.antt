@@ -1,4 +1,4 @@
-use Rattle.std.proofs.Common.{arith, rules, sym}
+use Rattle.std.proofs.Common.{rules, sym}
 use Rattle.command_words.proofs.Numbers.{found_number, not_read, other_number}
 use Rattle.command_words.proofs.read.number.Goals as goal
 

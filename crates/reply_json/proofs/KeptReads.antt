@@ -18,16 +18,6 @@ use Rattle.reply_json.specs.Json.{members, text, whole}
 use Rattle.reply_json.specs.Reads.{ending_text, front_text, kept_text, numbered}
 use Rattle.reply_json.specs.Values.{edges_data, object_data}
 
--- parts that were added one after another
-pub added3 : (o l1 l2 l3 a b c : List ℕ) → l1 ≡ o ++ a → l2 ≡ l1 ++ b → l3 ≡ l2 ++ c → l3 ≡ o ++ (a ++ (b ++ c))
-added3 o l1 l2 l3 a b c first second third =
-    third ∙ ap (λ l. l ++ c) (second ∙ ap (λ l. l ++ b) first) ∙ append_assoc (o ++ a) b c ∙ append_assoc o a (b ++ c)
-
-pub added4 : (o l1 l2 l3 l4 a b c d : List ℕ) → l1 ≡ o ++ a → l2 ≡ l1 ++ b → l3 ≡ l2 ++ c → l4 ≡ l3 ++ d → l4 ≡ o ++ (a ++ (b ++ (c ++ d)))
-added4 o l1 l2 l3 l4 a b c d first second third fourth =
-    fourth ∙ ap (λ l. l ++ d) (third ∙ ap (λ l. l ++ c) (second ∙ ap (λ l. l ++ b) first))
-    ∙ append_assoc ((o ++ a) ++ b) c d ∙ append_assoc (o ++ a) b (c ++ d) ∙ append_assoc o a (b ++ (c ++ d))
-
 -- the members from the word on
 abbrev ends : ReadWord → Bool → ℕ → List ℕ
 ends w store version =

@@ -1,3 +1,4 @@
 mod KeptReads
+mod Parts
 pub mod OneLine
 pub mod TextOf

@@ -1,5 +1,6 @@
 pub mod Calls
 pub mod Json
+pub mod Loads
 pub mod Nodes
 pub mod OneLine
 pub mod Plans

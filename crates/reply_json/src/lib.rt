@@ -3,12 +3,14 @@
 //! A reply holds nodes, regions and object types as their places; its text has the configuration's
 //! names for them.
 //!
-//! What it promises. The text of each reply and refusal, by the configuration's names.
+//! What it promises. The text of each reply and refusal, by the configuration's names, and of what came of a load.
 //!
-//! The contracts that say so: `reply_text`.
+//! The contracts that say so: `reply_text`, `load_text`.
 #![tactic(auto)]
 
+mod added;
 mod calls;
+mod loads;
 mod nodes;
 mod plans;
 mod reads;
@@ -19,4 +21,5 @@ mod spelled;
 mod texts;
 mod values;
 
+pub use loads::{bad_load_text, load_text};
 pub use reply::{bad_configuration_text, reply_text};

@@ -1,14 +1,11 @@
 //! The replies to reads whose answers are kept: what is the same in each is written as it stands.
 ghost use Rattle.std.specs.Prelude.{◌≡◌, ◌++◌, IfOk, IfSome, OnOk};
-ghost use Rattle.serde_json.specs.Written.{compact_text};
-ghost use Rattle.reply_json.specs.Reads.{IsKeptRead, ending_text, front_text, kept_text, numbered};
+ghost use Rattle.reply_json.specs.Reads.{IsKeptRead, ending_text, front_text, kept_text};
 ghost use Rattle.tao_base.specs.declared.query.Answer.TheVariants.{Object as ObjectIs, Edges as EdgesAre, Count};
 ghost use Rattle.topology.specs.Config.{Settings};
 
-use crate::said::{Said, said_object};
-use crate::spelled::{ROOM, Spelled};
-use itoa::Buffer;
-use json::Writer;
+use crate::added::{add_edges, add_maybe_object, add_numbered};
+use crate::spelled::ROOM;
 use replies::{CallReply, KeptOrNot, ReadReply, Reply};
 use std::alloc::{AllocError, Global};
 use tao_base::{Answer, Edge, Object};
@@ -28,68 +25,52 @@ pub(crate) fn kept_read(reply: &Reply) -> Option<&ReadReply>
     }
 }
 
-/// Adds a text and, behind it, a number.
-fn put_numbered(out: &mut Vec<u8>, text: &str, number: u64) -> Result<(), AllocError>
-    ensures { OnOk result (out.new.items ≡ out.old.items ++ numbered text.now number) }
+fn put_count(out: &mut Vec<u8>, count: u64, hops: u64) -> Result<(), AllocError>
+    ensures { (s : Settings) → OnOk result (out.new.items ≡ out.old.items ++ front_text s hops (Count count)) }
 {
-    let mut buffer = Buffer::new();
-    out.extend_from_slice(text.as_bytes())?;
-    out.extend_from_slice(buffer.format(number).as_bytes())
+    add_numbered(out, "{\"count\":", count)?;
+    add_numbered(out, ",\"hops\":", hops)?;
+    out.extend_from_slice(b",\"kept\":true")
 }
 
-/// Adds what JSON spells.
-fn put_value<T: Spelled>(out: Vec<u8>, value: &T) -> Result<Vec<u8>, AllocError>
-    ensures { IfOk result (λ more. more.items ≡ out.items ++ compact_text (T.value value.now)) }
+fn put_edges(alloc: Global, out: &mut Vec<u8>, edges: &[Edge], hops: u64) -> Result<(), AllocError>
+    ensures { (s : Settings) → OnOk result (out.new.items ≡ out.old.items ++ front_text s hops (EdgesAre edges.now)) }
 {
-    let mut writer = Writer::new(out);
-    value.put(&mut writer)?;
-    Ok(writer.into_inner())
-}
-
-fn put_count(out: Vec<u8>, count: u64, hops: u64) -> Result<Vec<u8>, AllocError>
-    ensures { (s : Settings) → IfOk result (λ more. more.items ≡ out.items ++ front_text s hops (Count count)) }
-{
-    let mut out = out;
-    put_numbered(&mut out, "{\"count\":", count)?;
-    put_numbered(&mut out, ",\"hops\":", hops)?;
-    out.extend_from_slice(b",\"kept\":true")?;
-    Ok(out)
-}
-
-fn put_edges(out: Vec<u8>, edges: &[Edge], hops: u64) -> Result<Vec<u8>, AllocError>
-    ensures { (s : Settings) → IfOk result (λ more. more.items ≡ out.items ++ front_text s hops (EdgesAre edges.now)) }
-{
-    let mut out = out;
     out.extend_from_slice(b"{\"edges\":")?;
-    let mut out = put_value(out, &Said::Edges(edges))?;
-    put_numbered(&mut out, ",\"hops\":", hops)?;
+    add_edges(alloc, out, edges)?;
+    add_numbered(out, ",\"hops\":", hops)?;
     out.extend_from_slice(b",\"kept\":true")?;
-    Ok(out)
+    Ok(())
 }
 
 fn put_object(
-    out: Vec<u8>,
+    alloc: Global,
+    out: &mut Vec<u8>,
     config: &Config,
     object: &Option<Object>,
     hops: u64,
-) -> Result<Vec<u8>, AllocError>
-    ensures { IfOk result (λ more. more.items ≡ out.items ++ front_text config.now hops (ObjectIs object.now)) }
+) -> Result<(), AllocError>
+    ensures { OnOk result (out.new.items ≡ out.old.items ++ front_text config.now hops (ObjectIs object.now)) }
 {
-    let mut out = out;
-    put_numbered(&mut out, "{\"hops\":", hops)?;
+    add_numbered(out, "{\"hops\":", hops)?;
     out.extend_from_slice(b",\"kept\":true,\"object\":")?;
-    let out = put_value(out, &said_object(config, object))?;
-    Ok(out)
+    add_maybe_object(alloc, out, config, object)?;
+    Ok(())
 }
 
 /// Adds what stands before the word.
-fn put_front(out: Vec<u8>, config: &Config, reply: &ReadReply) -> Result<Vec<u8>, AllocError>
-    ensures { IfOk result (λ more. more.items ≡ out.items ++ front_text config.now reply.now.hops reply.now.answer) }
+fn put_front(
+    alloc: Global,
+    out: &mut Vec<u8>,
+    config: &Config,
+    reply: &ReadReply,
+) -> Result<(), AllocError>
+    ensures { OnOk result (out.new.items ≡ out.old.items ++ front_text config.now reply.now.hops reply.now.answer) }
 {
     match &reply.answer {
         Answer::Count(count) => put_count(out, *count, reply.hops),
-        Answer::Edges(edges) => put_edges(out, edges.as_slice(), reply.hops),
-        Answer::Object(object) => put_object(out, config, object, reply.hops),
+        Answer::Edges(edges) => put_edges(alloc, out, edges.as_slice(), reply.hops),
+        Answer::Object(object) => put_object(alloc, out, config, object, reply.hops),
     }
 }
 
@@ -121,9 +102,9 @@ pub(crate) fn kept_text(
 ) -> Result<Vec<u8>, AllocError>
     ensures { IfOk result (λ text. text.items ≡ kept_text config.now reply.now) }
 {
-    let out = Vec::with_capacity(alloc, ROOM)?;
-    let mut out = put_front(out, config, reply)?;
-    put_numbered(&mut out, ending(reply.word, reply.store), reply.version)?;
+    let mut out = Vec::with_capacity(alloc, ROOM)?;
+    put_front(alloc, &mut out, config, reply)?;
+    add_numbered(&mut out, ending(reply.word, reply.store), reply.version)?;
     out.push(b'}')?;
     Ok(out)
 }

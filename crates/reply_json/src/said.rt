@@ -1,7 +1,7 @@
 //! What the members of a reply's line say.
 ghost use Rattle.std.specs.Prelude.{◌≡◌, option_map};
 ghost use Rattle.reply_json.specs.Said.{object_value, said_value};
-ghost use Rattle.reply_json.specs.Values.{answer_data, answer_name, count_said, edges_said, object_data, object_said};
+ghost use Rattle.reply_json.specs.Values.{answer_data, answer_name, count_said, edges_said, object_data, object_said, otype_name};
 ghost use Rattle.reply_json.specs.Writing.{Puts};
 
 use crate::spelled::{Spelled, put_items, put_members};
@@ -9,7 +9,7 @@ use crate::values::Part;
 use json::Writer;
 use replies::Message;
 use std::alloc::AllocError;
-use tao_base::{Answer, Data, Edge, Object};
+use tao_base::{Answer, Data, Edge, OType, Object};
 use topology::Config;
 
 /// What a member of a reply's line says.
@@ -62,6 +62,13 @@ fn put_object(out: &mut Writer, object: &ObjectSaid<'_>) -> Result<(), AllocErro
     )
 }
 
+/// The name that the configuration has for an object type.
+pub(crate) fn otype_name(config: &Config, otype: OType) -> &str
+    ensures { result.now ≡ otype_name config.now otype }
+{
+    config.schema.otype_name(otype)
+}
+
 /// The object, with the name that the configuration has for its type.
 pub(crate) fn said_object<'r>(config: &'r Config, object: &'r Option<Object>) -> Said<'r>
     ensures { said_value result ≡ object_data config.now object.now }
@@ -70,7 +77,7 @@ pub(crate) fn said_object<'r>(config: &'r Config, object: &'r Option<Object>) ->
         Some(object) => {
             Said::Object(Some(ObjectSaid {
                 payload: &object.payload,
-                otype: config.schema.otype_name(object.otype),
+                otype: otype_name(config, object.otype),
             }))
         }
         None => Said::Object(None),

@@ -14,11 +14,12 @@ use Rattle.replies.specs.declared.reply.Reply.TheVariants.{Audited, BadConfigura
 use Rattle.requests.specs.declared.request.Request.{Request}
 use Rattle.tao_core.specs.Core.{CoreState}
 use Rattle.tao_io.specs.Lines.{GivesLines, lines_of}
+use Rattle.first_line.proofs.FirstLemmas.{whole_part}
+use Rattle.first_line.specs.Interrupts.{AppendsPart}
 use Rattle.tao_top.proofs.GoingOn.{AreLines-after, GivesLines-begin, LinesBegin-after, Runs-append, Runs-one, appends_then_part, reply_of, still_refl}
-use Rattle.tao_top.proofs.GoingOn.{whole_part}
 use Rattle.tao_top.specs.Begun.{Begins, RepliesFirst}
 use Rattle.tao_top.specs.Making.{MadeAll, MadeInPart, under_way}
-use Rattle.tao_top.specs.Served.{Answered, AnsweredInPart, AppendsPart, AreGiven, AreLines, Done, DoneInPart, GivenBegin, IsStill, LinesBegin, ServedAll}
+use Rattle.tao_top.specs.Served.{Answered, AnsweredInPart, AreGiven, AreLines, Done, DoneInPart, GivenBegin, IsStill, LinesBegin, ServedAll}
 use Rattle.tao_top.specs.Served.{ServedInPart, given_by, joined, printed, requests_by, serves, start, streams, said_configured, unless_configured}
 use Rattle.tao_top.specs.Step.{Configures, Given, ReplyLine, Runs, State, TakesLine, line_at, line_read, request_made, serving}
 use Rattle.topology.specs.Config.{Settings}

@@ -18,16 +18,17 @@ use Rattle.core_nodes.specs.Outside.{Outside}
 use Rattle.region_stream.proofs.AgreeLemmas.{differences_tell}
 use Rattle.shard_log.specs.View.{Begins}
 use Rattle.tao_core.specs.Core.{CoreState}
+use Rattle.first_line.specs.Interrupts.{Faults}
 use Rattle.tao_top.proofs.GoingOn.{IsOver, none_after}
 use Rattle.tao_top.specs.Served.{AreLines, Done, LinesBegin, RefusesConfiguration, IsConfigurationRefused, StoresDisagree, given_by, requests_by, serves}
 use Rattle.tao_top.specs.Served.{start, streams}
 use Rattle.tao_top.specs.Status.{EndsByStores, IsGood, IsStatus, NoFault, StoresAgree}
 use Rattle.tao_top.specs.Step.{Configures, Given, ReplyLine, RunStage, Runs, State, TakesLine, disagreeing, ended, line_read, request_made, serving}
-use Rattle.tao_top.specs.Stop.{Faults, StopHasCause, stop_code}
+use Rattle.tao_top.specs.Stop.{StopHasCause, stop_code}
 use Rattle.replies.specs.declared.reply.Reply.{Reply}
 use Rattle.replies.specs.declared.reply.Reply.TheVariants.{BadConfiguration, BadStores, Configured}
 use Rattle.topology.specs.Config.{Settings}
-use Rattle.tao_top.specs.declared.stop.Interrupt.TheVariants.{Source, Sink, Memory, InputTooLong}
+use Rattle.first_line.specs.declared.Interrupt.TheVariants.{Source, Sink, Memory, InputTooLong}
 use Rattle.tao_top.specs.declared.stop.Stop.{Stop}
 use Rattle.tao_top.specs.declared.stop.Stop.TheVariants.{Configuration, Keepers, Stores, Interrupted}
 

@@ -1,5 +1,5 @@
 -- The first line of a run: taken as its configuration, or refused.
-use Rattle.std.proofs.Common.{◌≡◌, ℕ, Bool, List, [], ◌∷◌, length, Option, Result, Ok, Err, OnErr, inl, inr, refl, sym, subst, codes, arith}
+use Rattle.std.proofs.Common.{◌≡◌, ◌≤◌, ℕ, Bool, List, [], ◌∷◌, length, Option, Ok, Err, inl, inr, refl, sym, subst, codes, arith}
 use Rattle.tao_keeper.proofs.Later.{later_self}
 use Rattle.tao_keeper.specs.KeeperState.{KeeperState, IsLater}
 use Rattle.std.specs.Io.KnownBytes.{Appends}
@@ -14,17 +14,21 @@ use Rattle.core_nodes.specs.Beginning.{AreAtStores}
 use Rattle.core_nodes.specs.Opening.{IsOpened, IsOpenedInPart, IsOtherLine, RefusesOpening}
 use Rattle.tao_base.specs.declared.id.StoreName.{StoreName}
 use Rattle.tao_link.specs.Shown.{LinkShown}
-use Rattle.tao_io.specs.Lines.{GivesLines, IsTooLong, NextLineIs}
-use Rattle.tao_io.specs.declared.lines.NextLine.{NextLine}
-use Rattle.tao_io.specs.declared.lines.NextLine.TheVariants.{End}
+use Rattle.tao_io.specs.Lines.{GivesLines}
+use Rattle.first_line.specs.First.{EndsAtFirst, FirstHasCause, FirstWriting, RefusesFirst, RefusesFor, RefusesSo, refusal_line}
+use Rattle.first_line.specs.Interrupts.{AppendsPart, Faults}
+use Rattle.first_line.specs.declared.FirstStop.{FirstStop}
+use Rattle.first_line.specs.declared.FirstStop.TheVariants as at_first
+use Rattle.first_line.specs.declared.Interrupt.{Interrupt}
 use Rattle.tao_top.proofs.Answering.{answered_first, answered_none, printed_configured, printed_first}
 use Rattle.tao_top.proofs.GoingOn.{GivesLines-all, GivesLines-begin, still_refl}
-use Rattle.tao_top.proofs.OneLine.{no_configuration}
-use Rattle.tao_top.specs.Begun.{EndsAtFirst, GivesOne, RefusesFirst, RefusesFor, RefusesInPart, RefusesLine, RepliesFirst, ConfiguredInPart, SaysDisagreement}
+use Rattle.tao_top.specs.Begun.{RefusesLine, RepliesFirst, ConfiguredInPart, SaysDisagreement, StopsBeginning}
 use Rattle.core_nodes.specs.Outside.{Outside, outside}
-use Rattle.tao_top.specs.Served.{AppendsPart, AreLines, EndsInPart, OpensInPart, RefusesConfiguration, StopsOpening, ends_with, printed, refusal_line, serves}
+use Rattle.tao_top.specs.Served.{DoneInPart, EndsInPart, OpensInPart, RefusesConfiguration, StopsOpening, ends_with, printed, serves}
 use Rattle.tao_top.specs.Served.{AtOpeningOrLater, StoresDisagree, disagreement_line}
 use Rattle.tao_top.specs.Served.{start, streams, said_configured, unless_configured}
+use Rattle.tao_top.specs.Stop.{StopHasCause, stop_first}
+use Rattle.tao_top.specs.declared.stop.Stop.TheVariants.{Configuration, Interrupted, Keepers, Stores}
 use Rattle.tao_top.specs.Step.{ReplyLine, State, disagreeing, ended, Configures, Disagreement, Step, line_at, line_read}
 use Rattle.topology.specs.Config.{Settings}
 
@@ -50,60 +54,73 @@ refused_first words tells around line before after refused = (
   subst (AppendsPart before after) (sym (printed_first words line (line_at ended (BadConfiguration refused.0)) refl)) refused.2,
 )
 
+-- ---- the stop at the first line
+
+pub first_configuration : (first : FirstStop) → stop_first first ≡ Configuration → first ≡ at_first.Configuration
+first_configuration at_first.Configuration is = refl
+first_configuration (at_first.Interrupted i) is = absurd (cc is)
+
+pub first_interrupted : (first : FirstStop) (i : Interrupt) → stop_first first ≡ Interrupted i → first ≡ at_first.Interrupted i
+first_interrupted at_first.Configuration i is = absurd (cc is)
+first_interrupted (at_first.Interrupted j) i is = cc is
+
+-- it isn't at the opening of the stores
+pub first_keepers : (first : FirstStop) → stop_first first ≡ Keepers → ⊥
+first_keepers at_first.Configuration is = absurd (cc is)
+first_keepers (at_first.Interrupted i) is = absurd (cc is)
+
+pub first_stores : (first : FirstStop) → stop_first first ≡ Stores → ⊥
+first_stores at_first.Configuration is = absurd (cc is)
+first_stores (at_first.Interrupted i) is = absurd (cc is)
+
+pub first_cause : (old new : Faults) (before now : ℕ) (first : FirstStop) → FirstHasCause old new first → StopHasCause old new before now (stop_first first)
+first_cause old new before now at_first.Configuration cause = tt
+first_cause old new before now (at_first.Interrupted i) cause = cause
+
+pub first_writing : (sink_before sink_now before now : ℕ) (first : FirstStop) → FirstWriting sink_before sink_now first
+    → StopsBeginning sink_before sink_now before now (stop_first first)
+first_writing sink_before sink_now before now at_first.Configuration cause = tt
+first_writing sink_before sink_now before now (at_first.Interrupted i) cause = cause
+
 -- ---- the reading of the first line
+
+-- at most one line came out of the known bytes
+abbrev pub GivesOne : Option (List ℕ) → Option (List ℕ) → Type 0
+GivesOne left rest = (lines : List (List ℕ)) × (length lines ≤ 1) × GivesLines left rest lines
 
 module _ (left rest : Option (List ℕ)) where
   pub gives_one : (line : List ℕ) → GivesLines left rest (line ∷ []) → GivesOne left rest
   gives_one line read = (line ∷ [], omega arith, read)
 
-  pub gives_long : ((whole : List ℕ) × IsTooLong whole × GivesLines left rest (whole ∷ [])) → GivesOne left rest
-  gives_long long = gives_one long.0 long.2
+  module _ (before after : Option (List ℕ)) where
+    pub gives_refused : RefusesFirst left rest before after → GivesOne left rest
+    gives_refused (inl lacks) = ([], omega arith, lacks.0.0)
+    gives_refused (inr came) = gives_one came.0 came.1
 
-  pub gives_none : GivesLines left rest [] → GivesOne left rest
-  gives_none read = ([], omega arith, read)
+    module _ (tells : Bool) (around : Outside) where
+      pub refuses_first : RefusesFirst left rest before after → RefusesConfiguration tells around around left before after
+      refuses_first (inl lacks) =
+          record { field = []; refused = inl (GivesLines-all left rest [] lacks.0.0 lacks.0.1, refl, refl); written = lacks.1 }
+      refuses_first (inr came) = record {
+        field = came.2.0;
+        refused = inr (came.0, GivesLines-begin left rest (came.0 ∷ []) came.1, inl (record { refused = came.2.1; same = refl }));
+        written = came.2.2;
+      }
 
-module _ (left rest before after : Option (List ℕ)) where
-  pub ends_unread : Appends before after [] → EndsAtFirst left before after
-  ends_unread written = λ words tells around.
-      inr (answered_none (Ok words) tells (start around) around left before after written (still_refl tells around (start around) refl))
+      module _ (words : Words) where
+        abbrev InPart : Type 0
+        InPart = DoneInPart (Ok words) tells around around (streams left before) after
 
-  pub ends_at_first : (line : List ℕ) → GivesLines left rest (line ∷ []) → RefusesInPart line before after → EndsAtFirst left before after
-  ends_at_first line read (inl nothing) = ends_unread nothing
-  ends_at_first line read (inr refused) = λ words tells around.
-      inr (answered_first words tells (start around) (refusing around) around left rest before after line read
-      (refused_first words tells around line before after refused) (still_refl tells around (refusing around) refl))
+        refused_in_part : RefusesSo left rest (AppendsPart before after) → InPart
+        refused_in_part (inl lacks) = inl (record { read = GivesLines-all left rest [] lacks.0.0 lacks.0.1; written = lacks.1; same = refl })
+        refused_in_part (inr came) =
+            inr (answered_first words tells (start around) (refusing around) around left rest before after came.0 came.1
+            (refused_first words tells around came.0 before after came.2) (still_refl tells around (refusing around) refl))
 
-  pub ends_at_first_of : {T E : Type 0} (result : Result T E) (line : List ℕ) → GivesLines left rest (line ∷ [])
-      → OnErr result (RefusesInPart line before after) → OnErr result (EndsAtFirst left before after)
-  ends_at_first_of (Ok x) line read part = tt
-  ends_at_first_of (Err e) line read part = ends_at_first line read part
-
-  pub refuses_first : (line : List ℕ) → GivesLines left rest (line ∷ []) → RefusesFor line (Appends before after) → RefusesFirst left before after
-  refuses_first line read refused = λ tells around. record {
-    field = refused.0;
-    refused = inr (line, GivesLines-begin left rest (line ∷ []) read, inl (record { refused = refused.1; same = refl }));
-    written = refused.2;
-  }
-
-  pub ends_long : ((whole : List ℕ) × IsTooLong whole × GivesLines left rest (whole ∷ [])) → AppendsPart before after (refusal_line [])
-      → EndsAtFirst left before after
-  ends_long long written = ends_at_first long.0 long.2 (inr ([], no_configuration long.0 long.1, written))
-
-  pub refuses_long : ((whole : List ℕ) × IsTooLong whole × GivesLines left rest (whole ∷ [])) → Appends before after (refusal_line [])
-      → RefusesFirst left before after
-  refuses_long long written = refuses_first long.0 long.2 ([], no_configuration long.0 long.1, written)
-
-  -- the input has no line
-  none_left : (next : NextLine) (line : List ℕ) → NextLineIs next left rest line → next ≡ End → AreLines left []
-  none_left next line is end = let h = subst (λ n. NextLineIs n left rest line) end is in GivesLines-all left rest [] h.1 h.0
-
-  pub ends_lacking : (next : NextLine) (line : List ℕ) → NextLineIs next left rest line → next ≡ End → AppendsPart before after (refusal_line [])
-      → EndsAtFirst left before after
-  ends_lacking next line is end written = λ words tells around. inl (record { read = none_left next line is end; written = written; same = refl })
-
-  pub refuses_lacking : (next : NextLine) (line : List ℕ) → NextLineIs next left rest line → next ≡ End → Appends before after (refusal_line [])
-      → RefusesFirst left before after
-  refuses_lacking next line is end written = λ tells around. record { field = []; refused = inl (none_left next line is end, refl, refl); written = written }
+        pub ends_at_first : EndsAtFirst left rest before after → InPart
+        ends_at_first (inl nothing) =
+            inr (answered_none (Ok words) tells (start around) around left before after nothing (still_refl tells around (start around) refl))
+        ends_at_first (inr refused) = refused_in_part refused
 
 -- ---- the opening of the stores
 

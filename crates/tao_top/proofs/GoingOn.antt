@@ -8,7 +8,8 @@ use Rattle.std.proofs.KnownBytes.{Appends-kept, Appends-nil, Appends-trans}
 use Rattle.tao_io.proofs.GivenLines.{GivesLines-nil, GivesLines-trans}
 use Rattle.tao_io.specs.Lines.{lines_of, GivesLines}
 use Rattle.core_nodes.specs.Outside.{Outside}
-use Rattle.tao_top.specs.Served.{AreLines, LinesBegin, AppendsPart, IsStill, Served, ServedAll, ServedInPart, joined, streams}
+use Rattle.first_line.specs.Interrupts.{AppendsPart}
+use Rattle.tao_top.specs.Served.{AreLines, LinesBegin, IsStill, Served, ServedAll, ServedInPart, joined, streams}
 use Rattle.std.specs.Prelude.{⊤}
 use Rattle.tao_top.specs.Step.{Given, ReplyLine, RunStage, Runs, State, Replies, disagreeing, ended, line_at, line_read, serving, waiting}
 use Rattle.tao_io.proofs.LineLaws.{lines_of-nil}
@@ -101,10 +102,6 @@ appends_then_part before mid after xs ys first second = (
   length xs + second.0,
   subst (Appends before after) (sym (take-append-add xs ys second.0)) (Appends-trans before mid after xs (take second.0 ys) first second.1),
 )
-
--- what was written whole is a front of itself
-pub whole_part : (before after : Option (List ℕ)) (bytes : List ℕ) → Appends before after bytes → AppendsPart before after bytes
-whole_part before after bytes written = (length bytes, subst (Appends before after) (sym (take_all (length bytes) bytes (omega arith))) written)
 
 -- ---- what was served
 

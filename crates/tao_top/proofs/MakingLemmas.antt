@@ -11,9 +11,10 @@ use Rattle.load_gen.specs.Summary.{calls_in, is_call, is_refusal, refusals_in}
 use Rattle.replies.specs.declared.reply.Reply.{Reply}
 use Rattle.requests.specs.declared.request.Request.{Request}
 use Rattle.tao_core.specs.Core.{CoreState}
+use Rattle.first_line.specs.Interrupts.{AppendsPart}
 use Rattle.tao_top.proofs.GoingOn.{Runs-map, appends_then_part, still_refl}
 use Rattle.tao_top.specs.Making.{CountsCalls, Made, MadeAll, MadeInPart, Workload, refused_in, summed_of, under_way}
-use Rattle.tao_top.specs.Served.{AppendsPart, IsStill, serves, summed, summed_at}
+use Rattle.tao_top.specs.Served.{IsStill, serves, summed, summed_at}
 use Rattle.tao_top.specs.Step.{ReplyLine, Runs, State, Step, line_at, reply_line, request_made}
 
 -- ---- what comes next

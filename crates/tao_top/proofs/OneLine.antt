@@ -1,12 +1,9 @@
 -- One line that is served: as it was read, answered, and its reply written.
-use Rattle.std.proofs.Common.{◌≡◌, ℕ, nat_le, Bool, false, List, [], ◌∷◌, length, Option, None, Result, Ok, Err, IfErr, OnErr, OnOk, inl, inr, refl}
+use Rattle.std.proofs.Common.{◌≡◌, ℕ, Bool, List, [], ◌∷◌, Option, Result, Ok, Err, IfErr, OnErr, OnOk, inl, inr, refl}
 use Rattle.std.proofs.Common.{sym, ap, subst, arith}
-use Rattle.std.proofs.lemmas.Bool.Decides.{nat_tests}
 use Rattle.std.specs.Io.KnownBytes.{Appends, Keeps}
 use Rattle.std.proofs.KnownBytes.{Appends-kept, Appends-nil}
-use Rattle.config_json.specs.Config.{config_in}
-use Rattle.config_json.specs.declared.refusal.ConfigRefusal.TheVariants.{BadConfig}
-use Rattle.json_fields.specs.Json.{json_of}
+use Rattle.first_line.proofs.FirstLemmas.{no_json}
 use Rattle.replies.specs.declared.refusals.LineRefused.TheVariants as line
 use Rattle.replies.specs.declared.refusals.Refusal.TheVariants.{Line as OfLine}
 use Rattle.replies.specs.declared.reply.Reply.{Reply}
@@ -16,11 +13,12 @@ use Rattle.request_json.specs.declared.refusal.LineRefusal.TheVariants.{BadLine}
 use Rattle.tao_core.specs.Core.{CoreState, moment_of}
 use Rattle.tao_io.specs.Lines.{GivesLines, IsTooLong, NextLineIs}
 use Rattle.tao_io.specs.declared.lines.NextLine.{NextLine}
-use Rattle.tao_io.specs.declared.lines.NextLine.TheVariants.{Line, TooLong, End}
+use Rattle.tao_io.specs.declared.lines.NextLine.TheVariants.{Line, TooLong}
+use Rattle.first_line.specs.Interrupts.{AppendsPart}
 use Rattle.tao_top.proofs.GoingOn.{part_none, part_one, served_one, still_refl}
 use Rattle.tao_top.specs.Begun.{RepliesInPart}
 use Rattle.core_nodes.specs.Outside.{Outside}
-use Rattle.tao_top.specs.Served.{AppendsPart, Served, ServedInPart, serves, streams}
+use Rattle.tao_top.specs.Served.{Served, ServedInPart, serves, streams}
 use Rattle.tao_top.specs.Step.{AnswersLine, Given, State, Replies, Step, line_read, reply_line, serving}
 
 -- what holds, holds where there was an error
@@ -34,14 +32,8 @@ IfErr-any (Err e) P p = p e
 
 -- ---- a line that is too long
 
-no_json : (line : List ℕ) → IsTooLong line → json_of line ≡ None
-no_json line long = let over : nat_le (length line) 1048576 ≡ false = grind (arith, nat_tests) in rw over refl
-
 pub no_request : (line : List ℕ) → IsTooLong line → request_in line ≡ Err (BadLine [])
 no_request line long = rw (no_json line long) refl
-
-pub no_configuration : (line : List ℕ) → IsTooLong line → config_in line ≡ Err (BadConfig [])
-no_configuration line long = rw (no_json line long) refl
 
 -- its reply
 abbrev pub refused_whole : Reply
@@ -62,9 +54,6 @@ module _ (next : NextLine) (left rest : Option (List ℕ)) (line : List ℕ) (is
 
   pub line_of_TooLong : next ≡ TooLong → (whole : List ℕ) × IsTooLong whole × GivesLines left rest (whole ∷ [])
   line_of_TooLong h = subst (λ n. NextLineIs n left rest line) h is
-
-  pub end_of_End : next ≡ End → GivesLines left rest []
-  end_of_End h = (subst (λ n. NextLineIs n left rest line) h is).1
 
 -- the next line didn't come
 pub part_unread : (tells : Bool) (s : State) (left before : Option (List ℕ)) → ServedInPart tells s s.outside left before before

@@ -34,14 +34,16 @@ use Rattle.tao_core.specs.Opened.{AreAsBefore}
 use Rattle.tao_keeper.specs.KeeperState.{IsLater}
 use Rattle.tao_keeper.specs.Table.{Tables}
 use Rattle.tao_schema.specs.Schema.{types_of}
+use Rattle.first_line.proofs.FirstLemmas.{whole_part}
+use Rattle.first_line.specs.Interrupts.{AppendsPart}
 use Rattle.tao_top.proofs.Answering.{all_begin, none_given, printed_lacking}
-use Rattle.tao_top.proofs.GoingOn.{IsOver, none_after, whole_part}
+use Rattle.tao_top.proofs.GoingOn.{IsOver, none_after}
 use Rattle.tao_top.proofs.HeldNumbers.{plans_then}
 use Rattle.tao_top.proofs.Opened.{sessions_after}
 use Rattle.tao_top.specs.Promised.{AreAsPromised, AreInUse, ArePlans, AreSaid, AreSessions, InUse, IsAskedOf, IsNotServed, IsOpenedOtherwise}
 use Rattle.tao_top.specs.Promised.{IsParted, IsRefusedAs, IsUnconfigured, LineAsks, RunKeepsPromise, at_first, in_use_after, none_in_use}
 use Rattle.tao_top.specs.PromisedLaws.{CanBeDoneNow, RefusesRightly, RunsArePromised}
-use Rattle.tao_top.specs.Served.{AnsweredInPart, AppendsPart, Done, Ending, EndsInPart, printed, serves, start, streams}
+use Rattle.tao_top.specs.Served.{AnsweredInPart, Done, Ending, EndsInPart, printed, serves, start, streams}
 use Rattle.tao_top.specs.Step.{AnswersLine, AnswersNoRequest, Configures, FindsDisagreement, Given, KeepsServing, ReplyLine, RunStage, Runs, State, StepIn}
 use Rattle.tao_top.specs.Step.{TakesLine, asked_in, disagreeing, ended, in_line, line_at, line_read, request_made, serving, waiting}
 use Rattle.topology.specs.Config.{Settings}

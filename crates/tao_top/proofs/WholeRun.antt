@@ -1,7 +1,6 @@
 -- A whole run: its first line, and then all others.
 use Rattle.std.proofs.Common.{◌≡◌, ℕ, ◌+◌, ◌<◌, ◌≤◌, ◌^◌, Bool, List, [], ◌∷◌, length, length-append, Option, Some, None, Result, Ok, IfSome, inr, refl, sym}
 use Rattle.std.proofs.Common.{ap, subst, ◌∙◌, arith}
-use Rattle.std.proofs.KnownBytes.{Consumes-nil, prepend_known-nil}
 use Rattle.std.proofs.lemmas.List.{nil_from_length}
 use Rattle.std.specs.Io.KnownBytes.{Appends, IsAtEnd, prepend_known}
 use Rattle.command_words.specs.declared.Words.{Words}
@@ -12,37 +11,37 @@ use Rattle.config_json.specs.Config.{config_in}
 use Rattle.graph_model.specs.Told.{WhereTold}
 use Rattle.tao_core.specs.Core.{CoreState}
 use Rattle.core_nodes.specs.Opening.{MayOpen}
-use Rattle.tao_io.specs.LineReader.{LineReading, most_ahead, to_come}
+use Rattle.tao_io.specs.LineReader.{most_ahead}
 use Rattle.tao_io.specs.Lines.{CountsTaken, GivesLines}
 use Rattle.tao_keeper.specs.Table.{Tables}
+use Rattle.first_line.specs.First.{EndsAtFirst, RefusesFirst}
+use Rattle.first_line.specs.Interrupts.{AppendsPart, Faults, FaultsGrow, InterruptHasCause, InterruptsWriting}
 use Rattle.tao_top.proofs.Answering.{answered_whole}
-use Rattle.tao_top.proofs.FirstLine.{begun_part, refuses_line, stops_opening, stores_disagree}
+use Rattle.tao_top.proofs.FirstLine.{GivesOne, begun_part, ends_at_first, refuses_first, refuses_line, stops_opening, stores_disagree}
 use Rattle.tao_top.proofs.GoingOn.{GivesLines-begin}
-use Rattle.tao_top.specs.Begun.{Begins, EndsAtFirst, GivesOne, RefusesFirst, RefusesLine, RepliesFirst, ConfiguredInPart, SaysDisagreement}
+use Rattle.tao_top.specs.Begun.{Begins, RefusesLine, RepliesFirst, ConfiguredInPart, SaysDisagreement}
 use Rattle.tao_top.specs.Kept.{MayRun}
 use Rattle.core_nodes.specs.Outside.{Outside}
-use Rattle.tao_top.specs.Served.{AppendsPart, AtOpeningOrLater, Done, DoneInPart, EndsInPart, FailsOpening, LinesBegin, OpensInPart, RefusesConfiguration}
+use Rattle.tao_top.specs.Served.{AtOpeningOrLater, Done, DoneInPart, EndsInPart, FailsOpening, LinesBegin, OpensInPart, RefusesConfiguration}
 use Rattle.tao_top.specs.Served.{StopsOpening, StoresDisagree, ends_with, serves, start, streams}
-use Rattle.tao_top.specs.Stop.{Faults, FaultsGrow, InterruptHasCause, InterruptsWriting, StopHasCause, stop_code}
-use Rattle.tao_top.specs.Taken.{Takes, TakesAll, TakesAsked, TakesFirst}
-use Rattle.tao_top.specs.declared.stop.Interrupt.{Interrupt}
-use Rattle.tao_top.specs.declared.stop.Interrupt.TheVariants.{Source, Sink, Memory, InputTooLong}
+use Rattle.tao_top.specs.Stop.{StopHasCause, stop_code}
+use Rattle.tao_top.specs.Taken.{TakesAll, TakesAsked, TakesFirst}
+use Rattle.first_line.specs.declared.Interrupt.{Interrupt}
+use Rattle.first_line.specs.declared.Interrupt.TheVariants.{Source, Sink, Memory, InputTooLong}
 use Rattle.tao_top.specs.declared.stop.Stop.{Stop}
 use Rattle.tao_top.specs.declared.stop.Stop.TheVariants.{Configuration, Keepers, Stores, Interrupted}
 use Rattle.topology.specs.Config.{Settings}
 
--- a reader that took nothing leaves all to come
-pub fresh : (reader : LineReading) (left : Option (List ℕ)) → reader.ahead ≡ [] → to_come reader left ≡ left
-fresh reader left none = ap (λ ahead. prepend_known ahead left) none ∙ prepend_known-nil left
-
 -- ---- the first line
 
-module _ (tells : Bool) (around : Outside) (known left before after : Option (List ℕ)) (is : known ≡ left) where
-  pub first_in_part : (words : Words) → EndsAtFirst known before after → DoneInPart (Ok words) tells around around (streams left before) after
-  first_in_part words ends = subst (λ l. DoneInPart (Ok words) tells around around (streams l before) after) is (ends words tells around)
+module _ (tells : Bool) (around : Outside) (known left rest before after : Option (List ℕ)) (is : known ≡ left) where
+  pub first_in_part : (words : Words) → EndsAtFirst known rest before after → DoneInPart (Ok words) tells around around (streams left before) after
+  first_in_part words ends =
+      subst (λ l. DoneInPart (Ok words) tells around around (streams l before) after) is (ends_at_first known rest before after tells around words ends)
 
-  pub first_refused : RefusesFirst known before after → RefusesConfiguration tells around around left before after
-  first_refused refuses = subst (λ l. RefusesConfiguration tells around around l before after) is (refuses tells around)
+  pub first_refused : RefusesFirst known rest before after → RefusesConfiguration tells around around left before after
+  first_refused refuses =
+      subst (λ l. RefusesConfiguration tells around around l before after) is (refuses_first known rest before after tells around refuses)
 
 -- it was read, and nothing was written until its reply
 module _ (tells : Bool) (old mid : Outside) (known left rest before silent after : Option (List ℕ)) (line : List ℕ) (is : known ≡ left) (same : silent ≡ before)
@@ -101,14 +100,6 @@ interrupt_writing old new mid InputTooLong grew cause = absurd cause
 
 -- ---- how long the input is, by what was taken of it
 
-pub long_input : (a b : Option (List ℕ)) (k n : ℕ) → k ≡ 0 → CountsTaken a b k n → n ≡ 2 ^ 40 → IfSome a (λ bytes. 2 ^ 40 ≤ length bytes)
-long_input None b k n none taken is = tt
-long_input (Some x) None k n none taken is = absurd taken.consumed
-long_input (Some x) (Some y) k n none taken is =
-    let size : length x ≡ length taken.bytes + length y = ap length taken.consumed ∙ length-append taken.bytes y in
-    let count = taken.count in
-    omega arith
-
 pub short_input : (a b : Option (List ℕ)) (ahead : List ℕ) (k n : ℕ) → k ≡ 0 → CountsTaken a b k n → IsAtEnd (prepend_known ahead b) → n < 2 ^ 40
     → IfSome a (λ bytes. length bytes < 2 ^ 40)
 short_input None b ahead k n none taken end short = tt
@@ -120,13 +111,6 @@ short_input (Some x) (Some y) ahead k n none taken end short =
     omega arith
 
 -- ---- what was taken of it
-
--- nothing was
-pub takes_none : (left : Option (List ℕ)) → Takes left left
-takes_none left = record { bytes = []; consumed = Consumes-nil left; few = omega arith }
-
-pub takes_counted : (a b : Option (List ℕ)) (k n : ℕ) → k ≡ 0 → CountsTaken a b k n → n ≤ 2 ^ 40 → Takes a b
-takes_counted a b k n none taken limited = let count = taken.count in record { bytes = taken.bytes; consumed = taken.consumed; few = omega arith }
 
 -- nothing is left where nothing is to come
 pub end_of_source : (ahead : List ℕ) (left : Option (List ℕ)) → IsAtEnd (prepend_known ahead left) → IsAtEnd left

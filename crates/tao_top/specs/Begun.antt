@@ -1,38 +1,17 @@
--- The parts of a run: its first line, as it was read and taken, and each later one.
-use Rattle.std.specs.Prelude.{◌≡◌, ◌⊎◌, ◌≤◌, ℕ, Bool, List, [], ◌∷◌, length, Option, Ok, Err}
+-- The parts of a run: its first line, as it was taken, and each later one.
+use Rattle.std.specs.Prelude.{◌≡◌, ◌⊎◌, ℕ, Bool, List, [], ◌∷◌, Option, Ok}
 use Rattle.std.specs.Io.KnownBytes.{Appends}
-use Rattle.config_json.specs.Config.{config_in}
-use Rattle.config_json.specs.declared.refusal.ConfigRefusal.TheVariants.{BadConfig}
 use Rattle.counts.specs.Count.{Rose}
+use Rattle.first_line.specs.First.{refusal_line}
+use Rattle.first_line.specs.Interrupts.{AppendsPart, InterruptsWriting}
 use Rattle.replies.specs.declared.reply.Reply.TheVariants.{BadConfiguration}
 use Rattle.tao_io.specs.Lines.{GivesLines}
 use Rattle.command_words.specs.declared.Words.{Words}
 use Rattle.core_nodes.specs.Outside.{Outside}
-use Rattle.tao_top.specs.Served.{AppendsPart, DoneInPart, IsStill, Streams, RefusesConfiguration, disagreement_line, printed, refusal_line, start, streams}
+use Rattle.tao_top.specs.Served.{IsStill, Streams, disagreement_line, printed, start}
 use Rattle.tao_top.specs.Step.{Given, State, ended, line_read, Configures, Disagreement, FindsDisagreement, Replies}
-use Rattle.tao_top.specs.Stop.{InterruptsWriting}
 use Rattle.tao_top.specs.declared.stop.Stop.{Stop}
 use Rattle.tao_top.specs.declared.stop.Stop.TheVariants as stop
-
--- the line is no configuration, and its refusal is written so
-abbrev pub RefusesFor : List ℕ → (List ℕ → Type 0) → Type 0
-RefusesFor line Writes = (field : List ℕ) × (config_in line ≡ Err (BadConfig field)) × Writes (refusal_line field)
-
--- nothing was written, or a front of that refusal
-abbrev pub RefusesInPart : List ℕ → Option (List ℕ) → Option (List ℕ) → Type 0
-RefusesInPart line before after = Appends before after [] ⊎ RefusesFor line (AppendsPart before after)
-
--- whatever the words are, and whatever keepers and a link show, these are left alone, and the run is done in part
-abbrev pub EndsAtFirst : Option (List ℕ) → Option (List ℕ) → Option (List ℕ) → Type 0
-EndsAtFirst left before after = (words : Words) (tells : Bool) (around : Outside) → DoneInPart (Ok words) tells around around (streams left before) after
-
--- whatever keepers and a link show, they are left alone, and the first line is refused, since it is no configuration
-abbrev pub RefusesFirst : Option (List ℕ) → Option (List ℕ) → Option (List ℕ) → Type 0
-RefusesFirst left before after = (tells : Bool) (around : Outside) → RefusesConfiguration tells around around left before after
-
--- at most one line came out of the known bytes
-abbrev pub GivesOne : Option (List ℕ) → Option (List ℕ) → Type 0
-GivesOne left rest = (lines : List (List ℕ)) × (length lines ≤ 1) × GivesLines left rest lines
 
 -- the first line has a reply, and what is printed of that is written so
 abbrev pub RepliesFirst : Words → Bool → State → List ℕ → State → (List ℕ → Type 0) → Type 0

@@ -9,6 +9,7 @@ use Rattle.core_model.specs.Stores.{IsConfiguredStore, stores_in}
 use Rattle.core_nodes.specs.Opening.{DisagreesAt, IsSlaveStore}
 use Rattle.core_plans.specs.Held.{Plans, plan_at, plan_count}
 use Rattle.core_sessions.specs.Sessions.{Session, is_open}
+use Rattle.first_line.specs.Interrupts.{AppendsPart}
 use Rattle.plain_promise.specs.Promise.{Plain, RunsPlainly, Said}
 use Rattle.tao_schema.specs.Schema.{types_of}
 use Rattle.replies.specs.declared.plans.PlanReply.TheVariants.{Next}
@@ -26,7 +27,7 @@ use Rattle.tao_core.specs.Asked.{asked_of}
 use Rattle.tao_core.specs.Opened.{AreAsBefore}
 use Rattle.tao_keeper.specs.Table.{OpensAs, Tables}
 use Rattle.tao_keeper.specs.declared.keeper.Opened.TheVariants.{OtherLine}
-use Rattle.tao_top.specs.Served.{AppendsPart, AreGiven, Ending, GivenBegin, Streams, printed}
+use Rattle.tao_top.specs.Served.{AreGiven, Ending, GivenBegin, Streams, printed}
 use Rattle.tao_top.specs.Step.{AnswersNoRequest, Given, ReplyLine, asked_in, in_line, line_read, no_settings, request_made}
 use Rattle.topology.specs.Config.{Settings}
 

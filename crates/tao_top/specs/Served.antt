@@ -1,5 +1,5 @@
 -- What a run has read and written by its end.
-use Rattle.std.specs.Prelude.{◌≡◌, ◌⊎◌, ℕ, ◌+◌, Bool, ⊤, List, [], ◌∷◌, ◌++◌, map, Option, Some, None, take, Result, Ok, Err, if◌then◌else◌}
+use Rattle.std.specs.Prelude.{◌≡◌, ◌⊎◌, ℕ, ◌+◌, Bool, ⊤, List, [], ◌∷◌, ◌++◌, map, Option, Some, None, Result, Ok, Err, if◌then◌else◌}
 use Rattle.tao_keeper.specs.KeeperState.{KeepsTables, IsLater}
 use Rattle.std.specs.List.{flat_map}
 use Rattle.std.specs.Io.KnownBytes.{Appends}
@@ -9,6 +9,8 @@ use Rattle.command_words.specs.declared.WordsRefusal.{WordsRefusal}
 use Rattle.config_json.specs.Config.{config_in}
 use Rattle.config_json.specs.declared.refusal.ConfigRefusal.{ConfigRefusal}
 use Rattle.counts.specs.Count.{Rose}
+use Rattle.first_line.specs.First.{refusal_line}
+use Rattle.first_line.specs.Interrupts.{AppendsPart}
 use Rattle.graph_model.specs.Told.{WhereTold}
 use Rattle.load_gen.specs.Requests.{requests_of}
 use Rattle.load_gen.specs.Summary.{is_settle, refusals_in, summary_text}
@@ -90,10 +92,6 @@ said_configured (Gen seed calls) core = []
 
 -- ---- what was served
 
--- known bytes grow by a front of these
-abbrev pub AppendsPart : Option (List ℕ) → Option (List ℕ) → List ℕ → Type 0
-AppendsPart before after bytes = (size : ℕ) × Appends before after (take size bytes)
-
 -- a run waits for its configuration
 abbrev pub start : Outside → State
 start around = record { stage = waiting; outside = around }
@@ -174,10 +172,6 @@ pub record OpensInPart (tells : Bool) (old now : Outside) (line : List ℕ) (bef
   pub later : IsLater old.keepers now.keepers
   pub link : now.link ≡ old.link
   pub written : Appends before after []
-
--- the line that refuses the configuration for this field
-abbrev pub refusal_line : List ℕ → List ℕ
-refusal_line field = reply_line ended (BadConfiguration field)
 
 -- the line that says that stores disagree
 abbrev pub disagreement_line : Disagreement → List ℕ

@@ -6,11 +6,11 @@ use Rattle.counts.specs.Count.{Rose}
 use Rattle.config_json.specs.Config.{config_in}
 use Rattle.core_model.specs.Stores.{IsConfiguredStore, master_log, store_count}
 use Rattle.core_nodes.specs.Opening.{AreReady}
+use Rattle.first_line.specs.Interrupts.{Faults}
 use Rattle.shard_log.specs.View.{Begins}
 use Rattle.tao_base.specs.declared.id.StoreName.{StoreName}
 use Rattle.tao_io.specs.Lines.{lines_of}
 use Rattle.tao_keeper.specs.Table.{Tables}
-use Rattle.tao_top.specs.Stop.{Faults}
 use Rattle.topology.specs.Config.{Settings}
 
 -- the statuses that a run may end with

@@ -1,17 +1,11 @@
 -- What a run took of its source.
 use Rattle.std.specs.Prelude.{ℕ, ◌<◌, ◌≤◌, ◌^◌, ⊤, List, length, Option, Result, Ok, Err, IfSome}
-use Rattle.std.specs.Io.KnownBytes.{Consumes, IsAtEnd, prepend_known}
+use Rattle.std.specs.Io.KnownBytes.{IsAtEnd, prepend_known}
 use Rattle.command_words.specs.declared.Words.{Words}
 use Rattle.command_words.specs.declared.Words.TheVariants.{Gen, Run}
 use Rattle.command_words.specs.declared.WordsRefusal.{WordsRefusal}
 use Rattle.tao_io.specs.LineReader.{most_ahead}
 use Rattle.tao_io.specs.Lines.{GivesLines}
-
--- a run took the first of the known bytes, at most 2^40 of them
-pub record Takes (before after : Option (List ℕ)) : Type 0 where
-  pub bytes : List ℕ
-  pub consumed : Consumes before after bytes
-  pub few : length bytes ≤ 2 ^ 40
 
 -- a run took the first line, where there is one, and past it at most the rest of the 65,536 bytes in which its end came
 pub record TakesFirst (before after : Option (List ℕ)) : Type 0 where

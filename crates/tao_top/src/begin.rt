@@ -1,87 +1,26 @@
-//! The first line of a run: its configuration, with which the stores are opened.
-ghost use Rattle.std.specs.Prelude.{◌≡◌, ◌≢◌, ◌≤◌, ◌^◌, Ok, Err, [], ◌∷◌, length, IfErr, IfOk, OnErr, OnOk};
+//! The beginning of a run: its stores are opened with the configuration that its first line is.
+ghost use Rattle.std.specs.Prelude.{◌≡◌, ◌≤◌, Ok, Err, IfErr, IfOk, OnErr, OnOk};
 ghost use Rattle.std.specs.Io.KnownBytes.{Appends};
 ghost use Rattle.config_json.specs.Config.{config_in};
+ghost use Rattle.first_line.specs.Interrupts.{AppendsPart, InterruptsWriting};
 ghost use Rattle.graph_model.specs.Told.{WhereTold};
 ghost use Rattle.core_nodes.specs.Opening.{MayOpen};
-ghost use Rattle.tao_io.specs.LineReader.{most_ahead, to_come};
-ghost use Rattle.tao_io.specs.Lines.{CountsTaken, GivesLines};
-ghost use Rattle.tao_top.specs.Begun.{ConfiguredInPart, EndsAtFirst, GivesOne, RefusesFirst, RefusesFor, RefusesInPart, RefusesLine};
-ghost use Rattle.tao_top.specs.Begun.{RepliesFirst, StopsBeginning, SaysDisagreement};
+ghost use Rattle.tao_top.specs.Begun.{ConfiguredInPart, RefusesLine, RepliesFirst, SaysDisagreement, StopsBeginning};
 ghost use Rattle.tao_link.specs.Shown.{LinkShown};
 ghost use Rattle.tao_top.specs.Kept.{LeavesTables, MayServe};
 ghost use Rattle.core_nodes.specs.Outside.{outside};
-ghost use Rattle.tao_top.specs.Served.{AppendsPart, OpensInPart, serves, start, AtOpeningOrLater, said_configured};
-ghost use Rattle.tao_top.specs.Stop.{FaultsGrow, InterruptsWriting, StopHasCause, faults, stop_code};
+ghost use Rattle.tao_top.specs.Served.{OpensInPart, serves, start, AtOpeningOrLater, said_configured};
+ghost use Rattle.tao_top.specs.Stop.{stop_code};
 
-use crate::lines::{refuse, say_disagreement};
+use crate::lines::say_disagreement;
 use crate::serving::Serving;
-use crate::stop::{Interrupt, Stop};
+use crate::stop::Stop;
 use command_words::Words;
+use first_line::{FirstLine, Interrupt, refuse};
 use std::alloc::Global;
-use tao_io::{LineReader, NextLine, Sink, Source};
+use tao_io::Sink;
 use tao_keeper::Keeper;
-use tao_wire::{ConfigRefusal, OpenRefusal, Reply, read_config};
-use topology::Config;
-
-/// The first line, and the configuration that it is.
-#[derive(Drop)]
-pub(crate) struct First {
-    line: Vec<u8>,
-    pub(crate) config: Config,
-}
-
-/// Takes a line as the configuration, or writes its refusal.
-fn take_line<S: Sink>(alloc: Global, output: &mut S, line: Vec<u8>) -> Result<First, Stop>
-    ensures line { IfOk result (λ first. first.line.items ≡ line.items) }
-    ensures configured { IfOk result (λ first. config_in line.items ≡ Ok first.config) }
-    ensures silent { IfOk result (λ _. output.new ≡ output.old) }
-    ensures err { OnErr result (RefusesInPart line.items (S.taken output.old) (S.taken output.new)) }
-    ensures refused { result ≡ Err Stop.Configuration → RefusesFor line.items (Appends (S.taken output.old) (S.taken output.new)) }
-    ensures not_keepers { result ≢ Err Stop.Keepers }
-    ensures not_stores { result ≢ Err Stop.Stores }
-    ensures cause { IfErr result (StopsBeginning (S.faults output.old) (S.faults output.new) 0 0) }
-    ensures later { S.faults output.old ≤ S.faults output.new }
-{
-    match read_config(alloc, &line) {
-        Ok(config) => Ok(First { line, config }),
-        Err(ConfigRefusal::BadConfig { field }) => Err(refuse(alloc, output, field.as_str())),
-        Err(ConfigRefusal::OutOfMemory) => Err(Stop::Interrupted(Interrupt::Memory)),
-    }
-}
-
-/// Reads the first line as the configuration. Writes nothing but a refusal.
-pub(crate) fn read_first<R: Source, S: Sink>(
-    alloc: Global,
-    reader: &mut LineReader,
-    input: &mut R,
-    output: &mut S,
-) -> Result<First, Stop>
-    ensures line { IfOk result (λ first. GivesLines (to_come reader.old (R.left input.old)) (to_come reader.new (R.left input.new))
-        (first.line.items ∷ [])) }
-    ensures configured { IfOk result (λ first. config_in first.line.items ≡ Ok first.config) }
-    ensures silent { IfOk result (λ _. output.new ≡ output.old) }
-    ensures err { OnErr result (EndsAtFirst (to_come reader.old (R.left input.old)) (S.taken output.old) (S.taken output.new)) }
-    ensures refused { result ≡ Err Stop.Configuration → RefusesFirst (to_come reader.old (R.left input.old)) (S.taken output.old) (S.taken output.new) }
-    ensures once { result ≡ Err Stop.Configuration → GivesOne (to_come reader.old (R.left input.old)) (to_come reader.new (R.left input.new)) }
-    ensures not_keepers { result ≢ Err Stop.Keepers }
-    ensures not_stores { result ≢ Err Stop.Stores }
-    ensures cause { IfErr result (StopHasCause (faults (R.faults input.old) (S.faults output.old)) (faults (R.faults input.new) (S.faults output.new)) 0 0) }
-    ensures long { result ≡ Err (Stop.Interrupted Interrupt.InputTooLong) → reader.new.taken ≡ 2 ^ 40 }
-
-    ensures counted { CountsTaken (R.left input.old) (R.left input.new) reader.old.taken reader.new.taken }
-    ensures limited { reader.new.taken ≤ 2 ^ 40 }
-    ensures near { length reader.new.ahead ≤ most_ahead }
-    ensures later { FaultsGrow (faults (R.faults input.old) (S.faults output.old)) (faults (R.faults input.new) (S.faults output.new)) }
-{
-    let mut line = Vec::new(alloc);
-    match reader.next(input, &mut line) {
-        Ok(NextLine::Line) => take_line(alloc, output, line),
-        Ok(NextLine::TooLong) => Err(refuse(alloc, output, "")),
-        Ok(NextLine::End) => Err(refuse(alloc, output, "")),
-        Err(fault) => Err(Stop::Interrupted(Interrupt::from(fault))),
-    }
-}
+use tao_wire::{OpenRefusal, Reply};
 
 /// Says that the configuration was taken, where the words ask for the reply to each line.
 fn say_configured<S: Sink>(
@@ -110,7 +49,7 @@ fn say_configured<S: Sink>(
 pub(crate) fn begin<'c, S: Sink, K: Keeper>(
     alloc: Global,
     words: &Words,
-    first: &'c First,
+    first: &'c FirstLine,
     output: &mut S,
     keepers: &mut K,
 ) -> Result<Serving<'c>, Stop>
@@ -149,7 +88,7 @@ pub(crate) fn begin<'c, S: Sink, K: Keeper>(
                 }
             }
         }
-        Err(OpenRefusal::OtherLine) => Err(refuse(alloc, output, "file")),
+        Err(OpenRefusal::OtherLine) => Err(Stop::from(refuse(alloc, output, "file"))),
         Err(OpenRefusal::KeeperFault) => Err(Stop::Keepers),
         Err(OpenRefusal::OutOfMemory) => Err(Stop::Interrupted(Interrupt::Memory)),
         Err(OpenRefusal::Disagree { store, position }) => Err(say_disagreement(

@@ -1,38 +1,18 @@
 //! The lines that a run writes.
-ghost use Rattle.std.specs.Prelude.{◌≡◌, ◌≢◌, ◌++◌, ◌∷◌, [], ◌≤◌, IfOk, IfErr, OnOk, OnErr};
+ghost use Rattle.std.specs.Prelude.{◌≡◌, ◌≢◌, ◌++◌, ◌∷◌, [], ◌≤◌, IfErr, OnOk, OnErr};
 ghost use Rattle.std.specs.Io.KnownBytes.{Appends};
+ghost use Rattle.first_line.specs.Interrupts.{AppendsPart, InterruptsWriting};
 ghost use Rattle.reply_json.specs.Reply.{reply_text};
 ghost use Rattle.tao_top.specs.Begun.{StopsBeginning};
-ghost use Rattle.tao_top.specs.Served.{AppendsPart, disagreement_line, refusal_line};
-ghost use Rattle.tao_top.specs.Stop.{InterruptsWriting};
+ghost use Rattle.tao_top.specs.Served.{disagreement_line};
 
-use crate::stop::{Interrupt, Stop};
-use std::alloc::{AllocError, Global};
+use crate::stop::Stop;
+use first_line::{Interrupt, ended, write_line};
+use std::alloc::Global;
 use tao_base::{Bytes, StoreName};
-use tao_io::{Sink, write_all};
-use tao_wire::{Reply, bad_configuration_text, reply_text};
+use tao_io::Sink;
+use tao_wire::{Reply, reply_text};
 use topology::Config;
-
-/// A text with a line feed at its end.
-fn ended(text: Bytes) -> Result<Vec<u8>, AllocError>
-    ensures { IfOk result (λ line. line.items ≡ text ++ 10 ∷ []) }
-{
-    let mut line = text.into_vec();
-    line.push(b'\n')?;
-    Ok(line)
-}
-
-/// Writes a text and a line feed.
-fn write_line<S: Sink>(output: &mut S, text: Bytes) -> Result<(), Interrupt>
-    ensures ok { OnOk result (Appends (S.taken output.old) (S.taken output.new) (text ++ 10 ∷ [])) }
-    ensures err { OnErr result (AppendsPart (S.taken output.old) (S.taken output.new) (text ++ 10 ∷ [])) }
-    ensures cause { IfErr result (InterruptsWriting (S.faults output.old) (S.faults output.new)) }
-    ensures later { S.faults output.old ≤ S.faults output.new }
-{
-    let line = ended(text)?;
-    write_all(output, &line)?;
-    Ok(())
-}
 
 /// Writes the line of a reply, whose names the configuration tells.
 pub(crate) fn say<S: Sink>(
@@ -67,32 +47,6 @@ pub(crate) fn say_after<S: Sink>(
     let said = reply_text(alloc, config, reply)?;
     lines.extend_from_slice(said.as_slice())?;
     write_line(output, Bytes::of(lines))
-}
-
-/// Writes the line that refuses the configuration for a field.
-fn say_refusal<S: Sink>(alloc: Global, output: &mut S, field: &str) -> Result<(), Interrupt>
-    ensures ok { OnOk result (Appends (S.taken output.old) (S.taken output.new) (refusal_line field.now)) }
-    ensures err { OnErr result (AppendsPart (S.taken output.old) (S.taken output.new) (refusal_line field.now)) }
-    ensures cause { IfErr result (InterruptsWriting (S.faults output.old) (S.faults output.new)) }
-    ensures later { S.faults output.old ≤ S.faults output.new }
-{
-    let text = bad_configuration_text(alloc, field)?;
-    write_line(output, text)
-}
-
-/// Refuses the configuration for a field. The stop says whether the line that says it was written whole.
-pub(crate) fn refuse<S: Sink>(alloc: Global, output: &mut S, field: &str) -> Stop
-    ensures whole { result ≡ Stop.Configuration → Appends (S.taken output.old) (S.taken output.new) (refusal_line field.now) }
-    ensures part { AppendsPart (S.taken output.old) (S.taken output.new) (refusal_line field.now) }
-    ensures cause { StopsBeginning (S.faults output.old) (S.faults output.new) 0 0 result }
-    ensures not_keepers { result ≢ Stop.Keepers }
-    ensures not_stores { result ≢ Stop.Stores }
-    ensures later { S.faults output.old ≤ S.faults output.new }
-{
-    match say_refusal(alloc, output, field) {
-        Ok(()) => Stop::Configuration,
-        Err(interrupt) => Stop::Interrupted(interrupt),
-    }
 }
 
 /// Says of a store of the configuration that its log differs from its master's first at the position. The stop says whether the line that says

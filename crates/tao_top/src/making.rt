@@ -1,16 +1,16 @@
 //! The requests that a run makes itself: those of a workload, each with its reply.
 ghost use Rattle.std.specs.Prelude.{◌≡◌, ◌<◌, ◌≤◌, Ok, true, false, [], length, IfErr, IfOk, OnErr, OnOk};
 ghost use Rattle.std.specs.Io.KnownBytes.{Appends};
+ghost use Rattle.first_line.specs.Interrupts.{AppendsPart, InterruptsWriting};
 ghost use Rattle.load_gen.specs.Requests.{requests_of};
 ghost use Rattle.core_nodes.specs.Outside.{outside};
 ghost use Rattle.tao_top.specs.Kept.{LeavesTables, MayServe};
 ghost use Rattle.tao_top.specs.Making.{CountsCalls, Made, MadeAll, MadeInPart, under_way, way_of};
-ghost use Rattle.tao_top.specs.Served.{AppendsPart, serves, summed_at};
+ghost use Rattle.tao_top.specs.Served.{serves, summed_at};
 ghost use Rattle.tao_top.specs.Step.{reply_line, serving};
-ghost use Rattle.tao_top.specs.Stop.{InterruptsWriting};
 
 use crate::serving::Serving;
-use crate::stop::Interrupt;
+use first_line::Interrupt;
 use load_gen::{Workload, is_settle, refusals, summary};
 use std::alloc::Global;
 use tao_base::OutOfMemory;

@@ -1,15 +1,15 @@
 //! The lines of a run after its first, each with its reply.
 ghost use Rattle.std.specs.Prelude.{◌≡◌, ◌<◌, ◌≤◌, ◌^◌, Ok, true, false, IfErr, OnOk, OnErr, IsErrOf};
 ghost use Rattle.std.specs.Io.KnownBytes.{IsAtEnd, Keeps};
+ghost use Rattle.first_line.specs.Interrupts.{FaultsGrow, InterruptHasCause, InterruptsWriting, faults};
 ghost use Rattle.tao_io.specs.LineReader.{may_give, to_come};
 ghost use Rattle.tao_io.specs.Lines.{CountsTaken};
 ghost use Rattle.tao_top.specs.Kept.{LeavesTables, MayServe};
 ghost use Rattle.core_nodes.specs.Outside.{outside};
 ghost use Rattle.tao_top.specs.Served.{Served, ServedAll, ServedInPart, serves, streams};
-ghost use Rattle.tao_top.specs.Stop.{FaultsGrow, InterruptHasCause, InterruptsWriting, faults};
 
 use crate::serving::Serving;
-use crate::stop::Interrupt;
+use first_line::Interrupt;
 use tao_io::{LineReader, NextLine, Sink, Source};
 use tao_keeper::Keeper;
 use tao_link::Link;

@@ -1,84 +1,9 @@
 //! Why a run ends before the end of its input, and the status that says it.
 ghost use Rattle.std.specs.Prelude.{◌≡◌};
-ghost use Rattle.tao_top.specs.Stop.{interrupt_code, stop_code};
+ghost use Rattle.tao_top.specs.Stop.{stop_code};
 
+use first_line::{FirstStop, Interrupt};
 use std::alloc::AllocError;
-use tao_base::OutOfMemory;
-use tao_io::{ReadFault, SinkFailed};
-
-/// What may end a run at any line.
-#[derive(Clone, Copy, PartialEq, Eq)]
-pub(crate) enum Interrupt {
-    /// The source failed.
-    Source,
-    /// The sink failed.
-    Sink,
-    /// There was no memory to read a line, to open the stores or to spell a reply.
-    Memory,
-    /// The input has 2^40 bytes or more.
-    InputTooLong,
-}
-
-impl From<ReadFault> for Interrupt {
-    ghost use Rattle.std.specs.Prelude.{◌≡◌};
-    ghost use Rattle.tao_top.specs.Stop.{interrupt_from};
-
-    ghost from_gives = { λ fault interrupt. interrupt ≡ interrupt_from fault };
-
-    fn from(fault: ReadFault) -> Interrupt {
-        match fault {
-            ReadFault::Failed => Interrupt::Source,
-            ReadFault::InputTooLong => Interrupt::InputTooLong,
-            ReadFault::OutOfMemory => Interrupt::Memory,
-        }
-    }
-}
-
-impl From<AllocError> for Interrupt {
-    ghost use Rattle.std.specs.Prelude.{◌≡◌};
-    ghost use Rattle.tao_top.specs.declared.stop.Interrupt.TheVariants.{Memory};
-
-    ghost from_gives = { λ _ interrupt. interrupt ≡ Memory };
-
-    fn from(_: AllocError) -> Interrupt {
-        Interrupt::Memory
-    }
-}
-
-impl From<OutOfMemory> for Interrupt {
-    ghost use Rattle.std.specs.Prelude.{◌≡◌};
-    ghost use Rattle.tao_top.specs.declared.stop.Interrupt.TheVariants.{Memory};
-
-    ghost from_gives = { λ _ interrupt. interrupt ≡ Memory };
-
-    fn from(_: OutOfMemory) -> Interrupt {
-        Interrupt::Memory
-    }
-}
-
-impl From<SinkFailed> for Interrupt {
-    ghost use Rattle.std.specs.Prelude.{◌≡◌};
-    ghost use Rattle.tao_top.specs.declared.stop.Interrupt.TheVariants.{Sink};
-
-    ghost from_gives = { λ _ interrupt. interrupt ≡ Sink };
-
-    fn from(_: SinkFailed) -> Interrupt {
-        Interrupt::Sink
-    }
-}
-
-impl Interrupt {
-    fn code(self) -> u8
-        ensures { result ≡ interrupt_code self }
-    {
-        match self {
-            Interrupt::Source => 4,
-            Interrupt::Sink => 5,
-            Interrupt::Memory => 7,
-            Interrupt::InputTooLong => 9,
-        }
-    }
-}
 
 /// Why a run ends before the end of its input.
 #[derive(Clone, Copy, PartialEq, Eq)]
@@ -103,9 +28,23 @@ impl From<Interrupt> for Stop {
     }
 }
 
+impl From<FirstStop> for Stop {
+    ghost use Rattle.std.specs.Prelude.{◌≡◌};
+    ghost use Rattle.tao_top.specs.Stop.{stop_first};
+
+    ghost from_gives = { λ first stop. stop ≡ stop_first first };
+
+    fn from(first: FirstStop) -> Stop {
+        match first {
+            FirstStop::Configuration => Stop::Configuration,
+            FirstStop::Interrupted(interrupt) => Stop::Interrupted(interrupt),
+        }
+    }
+}
+
 impl From<AllocError> for Stop {
     ghost use Rattle.std.specs.Prelude.{◌≡◌};
-    ghost use Rattle.tao_top.specs.declared.stop.Interrupt.TheVariants.{Memory};
+    ghost use Rattle.first_line.specs.declared.Interrupt.TheVariants.{Memory};
     ghost use Rattle.tao_top.specs.declared.stop.Stop.TheVariants.{Interrupted};
 
     ghost from_gives = { λ _ stop. stop ≡ Interrupted Memory };

@@ -3,10 +3,11 @@ use Rattle.graph_model.specs.Told.{WhereTold}
 use Rattle.core_nodes.specs.Opening.{IsOpened, IsOtherLine, MayOpen, RefusesOpening}
 use Rattle.replies.specs.declared.opening.OpenRefusal.{OpenRefusal}
 use Rattle.replies.specs.declared.opening.OpenRefusal.TheVariants.{Disagree}
-use Rattle.tao_top.proofs.FirstLine.{begins, begun_disagreeing, begun_other, begun_whatever, refuses_other, says_disagreement}
+use Rattle.first_line.specs.Interrupts.{interrupt_code}
+use Rattle.tao_top.proofs.FirstLine.{begins, begun_disagreeing, begun_other, begun_whatever, first_configuration, refuses_other, says_disagreement}
 use Rattle.core_nodes.specs.Outside.{outside}
-use Rattle.tao_top.specs.Stop.{interrupt_code, stop_code}
-use Rattle.tao_top.specs.declared.stop.Stop.TheVariants.{Configuration, Stores}
+use Rattle.tao_top.specs.Stop.{stop_code}
+use Rattle.tao_top.specs.declared.stop.Stop.TheVariants.{Stores}
 use Rattle.tao_top.proofs.begin.begin.Goals as goal
 
 pub returns-in-Err-clause-err : goal.returns-in-Err-clause-err
@@ -40,7 +41,7 @@ returns-in-Err-OtherLine-clause-err g c =
     refused in
     λ link. begun_other g.K.Keeper.TELLS (outside (keepers c.args.keepers.now) link)
     (outside (keepers c.open.new.keepers) link) c.args.first.now.line.items c.args.first.now.config c.requires.configured c.in-Err-OtherLine.ensures.later refl
-    c.args.words.now _ _ other c.refuse.ensures.part (stop_code c.refuse.result)
+    c.args.words.now _ _ other c.refuse.ensures.part (stop_code c.from.result)
 
 pub returns-in-Err-OtherLine-clause-refused : goal.returns-in-Err-OtherLine-clause-refused
 returns-in-Err-OtherLine-clause-refused g c = λ e.
@@ -50,7 +51,7 @@ returns-in-Err-OtherLine-clause-refused g c = λ e.
     let other = subst (λ l. WhereTold g.K.Keeper.TELLS
     (IsOtherLine c.args.first.now.config l (g.K.Keeper.state c.args.keepers.now).told (g.K.Keeper.state c.open.new.keepers).told)) c.deref.ensures.value
     refused in
-    let whole : c.refuse.result ≡ Configuration = cc e in
+    let whole = first_configuration c.refuse.result (cc (e, c.from.ensures)) in
     λ link. refuses_other g.K.Keeper.TELLS (outside (keepers c.args.keepers.now) link)
     (outside (keepers c.open.new.keepers) link) c.args.first.now.line.items c.args.first.now.config c.requires.configured c.in-Err-OtherLine.ensures.later refl
     c.args.words.now _ _ other (c.refuse.ensures.whole whole)

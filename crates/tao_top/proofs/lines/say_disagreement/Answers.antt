@@ -1,4 +1,4 @@
-use Rattle.tao_top.proofs.GoingOn.{whole_part}
+use Rattle.first_line.proofs.FirstLemmas.{whole_part}
 use Rattle.tao_top.proofs.lines.say_disagreement.Goals as goal
 
 pub returns-in-Ok-clause-part : goal.returns-in-Ok-clause-part

@@ -1,10 +1,11 @@
 use Rattle.std.proofs.Common.{OnErr, refl, subst}
 use Rattle.core_nodes.specs.Outside.{outside}
+use Rattle.first_line.specs.Interrupts.{AppendsPart}
 use Rattle.tao_top.proofs.GoingOn.{still_refl}
 use Rattle.tao_top.proofs.MakingLemmas.{made_all_of, made_part_none}
 use Rattle.tao_top.proofs.OneLine.{OnErr-any}
 use Rattle.tao_top.specs.Making.{MadeInPart, Workload, way_of}
-use Rattle.tao_top.specs.Served.{AppendsPart, serves}
+use Rattle.tao_top.specs.Served.{serves}
 use Rattle.tao_top.proofs.making.make_requests.Goals as goal
 
 pub returns-in_err-making-clause-err : goal.returns-in_err-making-clause-err

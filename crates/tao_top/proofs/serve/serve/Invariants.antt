@@ -1,10 +1,10 @@
 use Rattle.std.proofs.Common.{◌≤◌, ◌^◌}
 use Rattle.tao_io.specs.LineReader.{may_give, to_come}
 use Rattle.tao_io.specs.Lines.{CountsTaken}
+use Rattle.first_line.specs.Interrupts.{FaultsGrow, faults}
 use Rattle.tao_top.specs.Kept.{LeavesTables, MayServe}
 use Rattle.core_nodes.specs.Outside.{outside}
 use Rattle.tao_top.specs.Served.{Served, serves, streams}
-use Rattle.tao_top.specs.Stop.{FaultsGrow, faults}
 use Rattle.tao_top.proofs.serve.serve.Given as goal
 
 abbrev pub invariant-lines : goal.invariant-lines

@@ -1,17 +1,19 @@
 use Rattle.std.proofs.Common.{◌≡◌, Ok, Err, ap, arith, inr, subst, sym}
 use Rattle.std.proofs.lemmas.Result.{err_from_is_err_and}
 use Rattle.tao_io.proofs.GivenLines.{CountsTaken-trans}
-use Rattle.tao_top.proofs.FirstLine.{gives_one}
+use Rattle.first_line.proofs.FirstLemmas.{fresh, long_input, takes_counted, takes_none}
+use Rattle.first_line.specs.Interrupts.{FaultsGrow, InterruptHasCause, faults}
+use Rattle.tao_top.proofs.FirstLine.{first_cause, first_configuration, first_interrupted, first_keepers, first_stores, gives_one, gives_refused}
 use Rattle.tao_top.proofs.Keeping.{leaves_then}
 use Rattle.tao_top.proofs.Answering.{answered_unread, gen_done, gen_done_in_part, run_done, run_done_in_part}
 use Rattle.tao_top.proofs.OneLine.{IfErr-any}
 use Rattle.tao_top.proofs.WholeRun.{begun_disagree, begun_in_part, begun_opening, begun_refused, begun_well, end_of_source, first_in_part, first_refused}
-use Rattle.tao_top.proofs.WholeRun.{fresh, interrupt_later, interrupt_writing, long_input, may_open, short_input, takes_counted, takes_first, takes_gen}
-use Rattle.tao_top.proofs.WholeRun.{takes_none, takes_run}
+use Rattle.tao_top.proofs.WholeRun.{interrupt_later, interrupt_writing, may_open, short_input, takes_first, takes_gen}
+use Rattle.tao_top.proofs.WholeRun.{takes_run}
 use Rattle.core_nodes.specs.Outside.{outside}
 use Rattle.tao_top.specs.Served.{EndsInPart, ends_with, start, streams}
-use Rattle.tao_top.specs.Stop.{FaultsGrow, InterruptHasCause, StopHasCause, faults, stop_code}
-use Rattle.tao_top.specs.declared.stop.Interrupt.TheVariants.{InputTooLong}
+use Rattle.tao_top.specs.Stop.{StopHasCause, stop_code}
+use Rattle.first_line.specs.declared.Interrupt.TheVariants.{InputTooLong}
 use Rattle.tao_top.specs.declared.stop.Stop.TheVariants.{Configuration, Keepers, Stores}
 use Rattle.tao_top.proofs.top.go.Goals as goal
 
@@ -21,16 +23,45 @@ returns-in_err-reader-clause-err g c = IfErr-any _ _ (λ stop. inr (inr (answere
 
 pub returns-in_err-first-clause-err : goal.returns-in_err-first-clause-err
 returns-in_err-first-clause-err g c =
-    IfErr-any _ _ (λ stop. inr (first_in_part g.K.Keeper.TELLS (outside (g.K.Keeper.state c.args.keepers.now) (g.L.Link.shown c.args.link.now)) _ _ _ _
+    IfErr-any _ _ (λ stop. inr (first_in_part g.K.Keeper.TELLS (outside (g.K.Keeper.state c.args.keepers.now) (g.L.Link.shown c.args.link.now)) _ _ _ _ _
     (fresh c.in_ok-reader.reader _ c.in_ok-reader.ensures.ahead) c.args.words.now c.in_err-first.ensures.err))
 
 pub returns-in_err-first-clause-refused : goal.returns-in_err-first-clause-refused
 returns-in_err-first-clause-refused g c = λ e.
     let p = err_from_is_err_and c.from_residual-in_err-first.result c.from_residual-in_err-first.ensures.1 in
-    let same : c.in_err-first.field-0.0 ≡ Configuration = cc (e, p.1, p.2) in
-    first_refused g.K.Keeper.TELLS (outside (g.K.Keeper.state c.args.keepers.now) (g.L.Link.shown c.args.link.now)) _ _ _ _
+    let same = first_configuration c.in_err-first.field-0.0 (cc (e, p.1, p.2)) in
+    first_refused g.K.Keeper.TELLS (outside (g.K.Keeper.state c.args.keepers.now) (g.L.Link.shown c.args.link.now)) _ _ _ _ _
     (fresh c.in_ok-reader.reader _ c.in_ok-reader.ensures.ahead)
     (c.in_err-first.ensures.refused (ap (λ s. Err s) same))
+
+pub returns-in_err-first-clause-keepers : goal.returns-in_err-first-clause-keepers
+returns-in_err-first-clause-keepers g c = λ e.
+    let p = err_from_is_err_and c.from_residual-in_err-first.result c.from_residual-in_err-first.ensures.1 in
+    absurd (first_keepers c.in_err-first.field-0.0 (cc (e, p.1, p.2)))
+
+pub returns-in_err-first-clause-stores : goal.returns-in_err-first-clause-stores
+returns-in_err-first-clause-stores g c = λ e.
+    let p = err_from_is_err_and c.from_residual-in_err-first.result c.from_residual-in_err-first.ensures.1 in
+    absurd (first_stores c.in_err-first.field-0.0 (cc (e, p.1, p.2)))
+
+pub returns-in_err-first-clause-at_stores : goal.returns-in_err-first-clause-at_stores
+returns-in_err-first-clause-at_stores g c = λ e.
+    let p = err_from_is_err_and c.from_residual-in_err-first.result c.from_residual-in_err-first.ensures.1 in
+    absurd (first_stores c.in_err-first.field-0.0 (cc (e, p.1, p.2)))
+
+pub returns-in_err-first-clause-cause : goal.returns-in_err-first-clause-cause
+returns-in_err-first-clause-cause g c =
+    let p = err_from_is_err_and c.from_residual-in_err-first.result c.from_residual-in_err-first.ensures.1 in
+    let before = faults (g.R.Source.faults c.args.input.now) (g.S.Sink.faults c.args.output.now) in
+    let after = faults (g.R.Source.faults c.read_first.new.input) (g.S.Sink.faults c.read_first.new.output) in
+    let kept = (g.K.Keeper.state c.args.keepers.now).faults in
+    rw p.1 (subst (StopHasCause before after kept kept) (sym p.2) (first_cause before after kept kept c.in_err-first.field-0.0 c.in_err-first.ensures.cause))
+
+pub returns-in_err-first-clause-long : goal.returns-in_err-first-clause-long
+returns-in_err-first-clause-long g c = λ e.
+    let p = err_from_is_err_and c.from_residual-in_err-first.result c.from_residual-in_err-first.ensures.1 in
+    let same = first_interrupted c.in_err-first.field-0.0 InputTooLong (cc (e, p.1, p.2)) in
+    long_input _ _ _ _ c.in_ok-reader.ensures.taken c.read_first.ensures.counted (c.in_err-first.ensures.long (ap (λ s. Err s) same))
 
 pub returns-in_err-serving-clause-err : goal.returns-in_err-serving-clause-err
 returns-in_err-serving-clause-err g c =
@@ -115,9 +146,9 @@ returns-in_err-first-clause-taken g c = takes_counted _ _ _ _ c.in_ok-reader.ens
 pub returns-in_err-first-clause-at_first : goal.returns-in_err-first-clause-at_first
 returns-in_err-first-clause-at_first g c = λ e.
     let p = err_from_is_err_and c.from_residual-in_err-first.result c.from_residual-in_err-first.ensures.1 in
-    let same : c.in_err-first.field-0.0 ≡ Configuration = cc (e, p.1, p.2) in
+    let same = first_configuration c.in_err-first.field-0.0 (cc (e, p.1, p.2)) in
     takes_first _ _ _ _ (fresh c.in_ok-reader.reader _ c.in_ok-reader.ensures.ahead) c.read_first.ensures.near
-    (c.in_err-first.ensures.once (ap (λ s. Err s) same))
+    (gives_refused _ _ _ _ (c.in_err-first.ensures.refused (ap (λ s. Err s) same)))
 
 pub returns-in_err-serving-clause-taken : goal.returns-in_err-serving-clause-taken
 returns-in_err-serving-clause-taken g c = takes_counted _ _ _ _ c.in_ok-reader.ensures.taken c.read_first.ensures.counted c.read_first.ensures.limited

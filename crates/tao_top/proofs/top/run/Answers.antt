@@ -1,15 +1,16 @@
 use Rattle.std.proofs.Common.{◌≡◌, ◌⊎◌, ℕ, Ok, Err, ap, arith, inl, inr, lit<, map, refl, string_bytes, subst, sym, ◌∙◌}
 use Rattle.command_words.specs.Read.{words_in}
+use Rattle.first_line.proofs.FirstLemmas.{takes_none}
 use Rattle.tao_top.proofs.Complete.{ends_done, ends_idle, ends_stopped, known_status}
 use Rattle.tao_top.proofs.Answering.{answered_unread}
 use Rattle.tao_top.proofs.Promised.{keeps_promise, runs_are_promised}
-use Rattle.tao_top.proofs.WholeRun.{done_whole, fails_opening, only_stores, takes_none}
+use Rattle.tao_top.proofs.WholeRun.{done_whole, fails_opening, only_stores}
 use Rattle.core_nodes.specs.Outside.{outside}
 use Rattle.tao_top.specs.Served.{Done, Ending, EndsInPart, ends_with, start, streams}
 use Rattle.tao_top.specs.Status.{EndsByStores, IsStatus}
 use Rattle.tao_top.specs.Stop.{stop_code}
 use Rattle.tao_top.specs.Taken.{TakesAsked}
-use Rattle.tao_top.specs.declared.stop.Interrupt.TheVariants.{InputTooLong, Memory, Sink, Source}
+use Rattle.first_line.specs.declared.Interrupt.TheVariants.{InputTooLong, Memory, Sink, Source}
 use Rattle.tao_top.specs.declared.stop.Stop.{Stop}
 use Rattle.tao_top.specs.declared.stop.Stop.TheVariants.{Configuration, Interrupted, Keepers, Stores}
 use Rattle.tao_top.proofs.top.run.Goals as goal

@@ -3,10 +3,11 @@ use Rattle.std.specs.Io.KnownBytes.{Appends}
 use Rattle.load_gen.specs.Requests.{first_of}
 use Rattle.load_gen.specs.Summary.{calls_in, refusals_in}
 use Rattle.core_nodes.specs.Outside.{outside}
+use Rattle.first_line.specs.Interrupts.{AppendsPart}
 use Rattle.tao_top.proofs.GoingOn.{still_refl}
 use Rattle.tao_top.proofs.MakingLemmas.{counts_on, first_came, made_none_left, made_one_of, made_part_none, made_part_one_of}
 use Rattle.tao_top.proofs.OneLine.{OnErr-any}
-use Rattle.tao_top.specs.Served.{AppendsPart, serves, summed_at}
+use Rattle.tao_top.specs.Served.{serves, summed_at}
 use Rattle.tao_top.specs.Step.{reply_line, serving}
 use Rattle.tao_top.proofs.making.Making.make_next.Goals as goal
 

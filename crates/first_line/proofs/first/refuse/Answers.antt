@@ -1,5 +1,5 @@
-use Rattle.tao_top.proofs.GoingOn.{whole_part}
-use Rattle.tao_top.proofs.lines.refuse.Goals as goal
+use Rattle.first_line.proofs.FirstLemmas.{whole_part}
+use Rattle.first_line.proofs.first.refuse.Goals as goal
 
 pub returns-in-Ok-clause-part : goal.returns-in-Ok-clause-part
 returns-in-Ok-clause-part g c = whole_part _ _ _ c.in-Ok.ensures.ok

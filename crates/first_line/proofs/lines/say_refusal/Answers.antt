@@ -1,8 +1,8 @@
 use Rattle.std.proofs.Common.{[], ◌∷◌, ◌++◌, OnErr, OnOk, subst}
 use Rattle.std.specs.Io.KnownBytes.{Appends}
-use Rattle.tao_top.specs.Served.{AppendsPart}
-use Rattle.tao_top.specs.Step.{no_settings}
-use Rattle.tao_top.proofs.lines.say_refusal.Goals as goal
+use Rattle.first_line.specs.Interrupts.{AppendsPart}
+use Rattle.first_line.proofs.FirstLemmas.{no_settings}
+use Rattle.first_line.proofs.lines.say_refusal.Goals as goal
 
 pub returns-clause-ok : goal.returns-clause-ok
 returns-clause-ok g c =

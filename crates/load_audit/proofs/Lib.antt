@@ -1,6 +1,6 @@
 mod AuditLemmas
 mod CheckedWrites
-mod LastRecords
+pub mod LastRecords
 mod Meeting
-mod PlaceLemmas
+pub mod PlaceLemmas
 mod SameEdges

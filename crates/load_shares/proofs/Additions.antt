@@ -1,6 +1,6 @@
 -- The additions of a workload always write, and one whose entry was seen stands in each log that what was seen begins.
-use Rattle.std.proofs.Common.{◌≡◌, ℕ, zero, suc, ◌+◌, ◌≤◌, Bool, true, false, List, [], ◌∷◌, Option, Some, None, Result, Ok, Err, refl, ap, sym, subst, ◌∙◌, arith}
-use Rattle.std.specs.Prelude.{◌&&◌, ◌==◌, ◌||◌, IfOk, IsSomeAnd, drop, if◌then◌else◌, length, not, slice_get, take}
+use Rattle.std.proofs.Common.{◌≡◌, ℕ, zero, suc, ◌+◌, Bool, true, false, List, [], ◌∷◌, Option, Some, None, Result, Ok, Err, refl, ap, sym, subst, ◌∙◌, arith}
+use Rattle.std.specs.Prelude.{◌&&◌, ◌||◌, IfOk, IsSomeAnd, drop, if◌then◌else◌, length, not, slice_get}
 use Rattle.std.specs.List.{list_any}
 use Rattle.std.proofs.lemmas.List.Sums.{sum_by-cons}
 use Rattle.graph_model.specs.Log.{entry_at}
@@ -15,7 +15,6 @@ use Rattle.requests.specs.declared.calls.Call.TheVariants as call
 use Rattle.requests.specs.declared.calls.WriteCall.{WriteCall}
 use Rattle.requests.specs.declared.calls.WriteText.{WriteText}
 use Rattle.requests.specs.declared.calls.WriteText.TheVariants as text
-use Rattle.requests.specs.declared.request.Request.{Request}
 use Rattle.requests.specs.declared.request.Request.TheVariants as request
 use Rattle.shard_log.proofs.Beginnings.{begins-rest}
 use Rattle.shard_log.specs.View.{Begins, View}
@@ -25,7 +24,6 @@ use Rattle.tao_base.specs.declared.entry.Entry.{Entry}
 use Rattle.tao_base.specs.declared.entry.Origin.{Origin}
 use Rattle.tao_base.specs.declared.entry.Origin.TheVariants.{Client}
 use Rattle.tao_base.specs.declared.write.Write.{Write}
-use Rattle.tao_base.specs.declared.write.Write.TheVariants as write
 use Rattle.topology.specs.Config.{Settings}
 use Rattle.write_model.proofs.Growing.{entry_at-more}
 use Rattle.write_model.specs.Writes.{forward_entry}
@@ -92,11 +90,11 @@ entry_any log (suc n) e session seq at is =
     any_at (λ (x : Entry). same_origin (Client session seq) x.origin) log n e at (ap (same_origin (Client session seq)) is ∙ same_client session seq)
 
 -- what stands in what was seen stands in each log that this begins
-stands_on : (part whole : List Entry) (position : ℕ) (e : Entry) → Begins part whole → entry_at part position ≡ Some e → entry_at whole position ≡ Some e
+pub stands_on : (part whole : List Entry) (position : ℕ) (e : Entry) → Begins part whole → entry_at part position ≡ Some e → entry_at whole position ≡ Some e
 stands_on part whole position e begins stands =
     subst (λ xs. entry_at xs position ≡ Some e) (begins-rest part whole begins) (entry_at-more part (drop (length part) whole) position e stands)
 
-some_parts : {X : Type 0} (P : X → Type 0) (o : Option X) → IsSomeAnd o P → (x : X) × (o ≡ Some x) × P x
+pub some_parts : {X : Type 0} (P : X → Type 0) (o : Option X) → IsSomeAnd o P → (x : X) × (o ≡ Some x) × P x
 some_parts P None h = absurd h
 some_parts P (Some x) h = (x, refl, h)
 

@@ -1,18 +1,17 @@
 -- A call that adds something was refused, or its entry stands in what its pass has then seen.
-use Rattle.std.proofs.Common.{◌≡◌, ℕ, ◌≤◌, Bool, true, false, List, [], ◌∷◌, Option, Some, None, Result, Ok, Err, refl, sym, ap, subst, ◌∙◌, inl, inr, ◌⊎◌, arith}
-use Rattle.std.specs.Prelude.{IsSomeAnd, slice_get, take}
+use Rattle.std.proofs.Common.{◌≡◌, ℕ, ◌≤◌, Bool, true, false, List, [], ◌∷◌, Some, Result, Ok, Err, refl, sym, subst, ◌∙◌, inl, inr, arith}
+use Rattle.std.specs.Prelude.{slice_get, take}
 use Rattle.std.proofs.lemmas.List.Sums.{sum_by-cons}
-use Rattle.cluster_writes.specs.Replies.{AnswersWrite, FindsNothingSince, HasSeen, IsEntryOf, RepliesToWrite, WritesIn}
+use Rattle.cluster_writes.specs.Replies.{AnswersWrite, IsEntryOf, RepliesToWrite, WritesIn}
 use Rattle.core_model.specs.Asked.{AuthoredWrite, client_call}
 use Rattle.graph_model.specs.Log.{entry_at}
 use Rattle.load_audit.specs.Listed.{is_add, missing_add, missing_adds}
 use Rattle.load_gen.specs.Summary.{refusals_in}
-use Rattle.load_shares.proofs.Additions.{additions_stand}
+use Rattle.load_shares.proofs.Additions.{additions_stand, some_parts}
 use Rattle.load_shares.proofs.Shared.{missing_length}
 use Rattle.load_shares.specs.Adding.{IsCheckedOf}
 use Rattle.load_shares.specs.Seen.{BeginLogs}
 use Rattle.outcomes.specs.Results.{◌>>=◌}
-use Rattle.replies.specs.declared.calls.CallReply.{CallReply}
 use Rattle.replies.specs.declared.calls.CallReply.TheVariants.{Read as OfRead, Write as OfWrite}
 use Rattle.replies.specs.declared.calls.WriteReply.{WriteReply}
 use Rattle.replies.specs.declared.refusals.NameRefused.{NameRefused}
@@ -20,7 +19,6 @@ use Rattle.replies.specs.declared.refusals.Refusal.{Refusal}
 use Rattle.replies.specs.declared.reply.Reply.{Reply}
 use Rattle.replies.specs.declared.reply.Reply.TheVariants as reply
 use Rattle.request_check.specs.Calls.{checked_write_call}
-use Rattle.request_check.specs.declared.checked.CheckedCall.{CheckedCall}
 use Rattle.request_check.specs.declared.checked.CheckedCall.TheVariants as of_call
 use Rattle.request_check.specs.declared.checked.CheckedWrite.{CheckedWrite}
 use Rattle.requests.specs.declared.calls.Call.TheVariants as call
@@ -28,14 +26,13 @@ use Rattle.requests.specs.declared.calls.WriteCall.{WriteCall}
 use Rattle.requests.specs.declared.request.Request.{Request}
 use Rattle.requests.specs.declared.request.Request.TheVariants as request
 use Rattle.shard_log.specs.View.{View}
-use Rattle.shared_tiers.specs.Calls.{Calling, RefusesAtOnce, RepliesTo, RepliesToNamed}
+use Rattle.shared_tiers.specs.Calls.{Calling, RepliesTo, RepliesToNamed}
 use Rattle.shared_tiers.specs.locked_nodes.Begun.{Begun, begun}
 use Rattle.shared_tiers.specs.locked_nodes.Cluster.{OnCluster}
 use Rattle.tao_base.specs.Writes.{write_shard}
 use Rattle.tao_base.specs.declared.entry.Entry.{Entry}
 use Rattle.tao_base.specs.declared.entry.Origin.TheVariants.{Client}
 use Rattle.tao_schema.specs.Schema.{types_of}
-use Rattle.tao_busy.proofs.PassesSeen.{some_parts}
 
 module _ {M : Type 0} (on : OnCluster M) (old new : Calling) (told_so : on.tells ≡ true) (logs : List (List Entry))
     (begin : BeginLogs logs new.pass.notes)

@@ -1,7 +1,8 @@
 -- How a load ends.
-use Rattle.std.proofs.Common.{◌≡◌, ℕ, ◌≤◌, ◌<◌, Bool, List, sym, subst, arith}
+use Rattle.std.proofs.Common.{◌≡◌, ℕ, ◌<◌, Bool, List, sym, subst, arith}
 use Rattle.shared_tiers.specs.cluster_closing.Closing.{AnswersClosed, StopsOver}
 use Rattle.core_model.specs.Fleet.{Fleet}
+use Rattle.core_model.specs.Jobs.{IsFirstJobOf, job_on}
 use Rattle.shared_tiers.specs.locked_nodes.core_nodes.Outside.{outside}
 use Rattle.shared_tiers.specs.locked_nodes.core_nodes.declared.settling.SettleStop.{SettleStop}
 use Rattle.shared_tiers.specs.locked_nodes.core_nodes.declared.settling.SettleStop.TheVariants as stop
@@ -17,21 +18,24 @@ use Rattle.shared_tiers.specs.cluster_opening.Opening.{shown_in}
 use Rattle.shared_tiers.specs.cluster_closing.unlocked_nodes.Settling.{ClosedNow, HasStopCause, closed_now}
 use Rattle.shared_tiers.specs.cluster_closing.unlocked_nodes.core_repairs.Stops.{unsettled_as}
 use Rattle.load_audit.specs.Audits.{logs_in}
-use Rattle.load_audit.specs.Listed.{missing_adds}
 use Rattle.requests.specs.declared.request.Request.{Request}
+use Rattle.tao_base.specs.declared.entry.Entry.{Entry}
+use Rattle.tao_base.specs.declared.id.StoreName.{StoreName}
 use Rattle.tao_keeper.specs.KeeperState.{KeeperState}
+use Rattle.tao_keeper.specs.Table.{Tables}
 use Rattle.tao_link.specs.Shown.{LinkShown}
 use Rattle.topology.specs.Config.{Settings}
 use Rattle.topology.specs.States.{NodeStates, all_up}
-use Rattle.tao_busy.specs.Load.{HasFullLog, IsSettledLoad}
+use Rattle.tao_busy.specs.Load.{IsSettledLoad, OwesToFullLog}
 
--- what is missed in the logs of the same keepers, of the same requests
-pub few_over : {M : Type 0} (state : M → KeeperState) (s t : Settings) (old new : List M) (asked now : List Request) (refused : ℕ) → s ≡ t → new ≡ old
-    → now ≡ asked → missing_adds (logs_in t (told_in state t.shards old)) asked ≤ refused → missing_adds (logs_in s (told_in state s.shards new)) now ≤ refused
-few_over {M} state s t old new asked now refused made kept same few =
-    subst (λ (x : Settings). missing_adds (logs_in x (told_in state x.shards new)) now ≤ refused) (sym made)
-    (subst (λ (ks : List M). missing_adds (logs_in t (told_in state t.shards ks)) now ≤ refused) (sym kept)
-    (subst (λ (x : List Request). missing_adds (logs_in t (told_in state t.shards old)) x ≤ refused) (sym same) few))
+-- what is so of the logs of the same keepers, and of the same requests
+pub so_over : {M : Type 0} (state : M → KeeperState) (P : List (List Entry) → List Request → Type 0) (s t : Settings) (old new : List M)
+    (asked now : List Request) → s ≡ t → new ≡ old → now ≡ asked → P (logs_in t (told_in state t.shards old)) asked
+    → P (logs_in s (told_in state s.shards new)) now
+so_over {M} state P s t old new asked now made kept same so =
+    subst (λ (x : Settings). P (logs_in x (told_in state x.shards new)) now) (sym made)
+    (subst (λ (ks : List M). P (logs_in t (told_in state t.shards ks)) now) (sym kept)
+    (subst (λ (x : List Request). P (logs_in t (told_in state t.shards old)) x) (sym same) so))
 
 module _ {M : Type 0} (tells : Bool) (state : M → KeeperState) (s : Settings) (was fleet : Fleet) (old keepers : List M) (before after : LinkShown) where
   -- what the closed cluster was, and is after any number of calls on stores that no keeper stands for
@@ -53,7 +57,7 @@ module _ {M : Type 0} (tells : Bool) (state : M → KeeperState) (s : Settings) 
   pub record StuckAt (shard : ℕ) (reason : UnsettledWhy) : Type 0 where
     pub here : shard < s.shards
     pub no_link : reason ≡ why.LinkFault → ⊥
-    pub full : reason ≡ why.LogFull → WhereTold tells (HasFullLog s (told_in state s.shards keepers))
+    pub full : reason ≡ why.LogFull → WhereTold tells (OwesToFullLog s (told_in state s.shards keepers) shard)
 
   given_so : (states : NodeStates) (given : SettleStop) (shard : ℕ) (reason : UnsettledWhy)
       → Refused (Store (Unsettled shard reason)) ≡ unsettled_as states given → given ≡ stop.Unsettled shard reason
@@ -66,7 +70,13 @@ module _ {M : Type 0} (tells : Bool) (state : M → KeeperState) (s : Settings) 
   stuck_by shard strays why.LogFull none still cause = record {
     here = cause.0;
     no_link = λ is. absurd (cc);
-    full = λ is told. record { shard = _; full = cause.1.full told };
+    full = λ is told.
+        let stays : (at : StoreName) → told_in state s.shards keepers at ≡ cause.1.before.keepers.told at = cause.1.merges.1 told in
+        record {
+          job = cause.1.job;
+          first = subst (λ (tables : Tables). IsFirstJobOf s tables (job_on shard cause.1.job)) (λ i at. sym (stays at) i) (cause.1.first told);
+          full = cause.1.full told;
+        };
   }
   stuck_by shard strays why.KeeperFault none still cause = record { here = cause.0; no_link = λ is. absurd (cc); full = λ is. absurd (cc) }
   stuck_by shard strays why.LinkFault none still cause = absurd (omega (arith, cause.1, none, still))

@@ -6,3 +6,6 @@ mod Loaded
 mod Meets
 mod PassesSeen
 mod Running
+mod SessionPasses
+mod Unrefused
+mod Ways

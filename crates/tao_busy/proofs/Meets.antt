@@ -14,11 +14,10 @@ use Rattle.load_audit.specs.Listed.{missing_adds}
 use Rattle.load_shares.proofs.Shared.{all_missing, missing_length}
 use Rattle.load_shares.specs.Seen.{AllBegin, BeginLogs}
 use Rattle.load_shares.specs.Turns.{missing_of_first, share_of}
-use Rattle.log_names.specs.Names.{LogNames}
 use Rattle.requests.specs.declared.request.Request.{Request}
 use Rattle.session_pass.specs.Passes.{SeenPass}
 use Rattle.shard_log.specs.View.{Begins, Grows, View}
-use Rattle.shared_stores.specs.Making.{Making}
+use Rattle.shared_tiers.specs.locked_nodes.Cluster.{OnCluster}
 use Rattle.tao_base.specs.declared.entry.Entry.{Entry}
 use Rattle.tao_keeper.specs.Table.{Tables}
 use Rattle.topology.specs.Config.{Settings}
@@ -33,7 +32,7 @@ range_at a zero i inside = absurd (omega (arith, inside))
 range_at a (suc n) zero inside = ap Some (omega arith)
 range_at a (suc n) (suc i) inside = range_at (a + 1) n i (omega (arith, inside)) ∙ ap Some (omega arith)
 
-logs_at : (s : Settings) (tables : Tables) (shard : ℕ) → shard < s.shards → slice_get (logs_in s tables) shard ≡ Some (master_log s tables shard)
+pub logs_at : (s : Settings) (tables : Tables) (shard : ℕ) → shard < s.shards → slice_get (logs_in s tables) shard ≡ Some (master_log s tables shard)
 logs_at s tables shard inside =
     slice_get-map (master_log s tables) (range_with_len 0 s.shards) shard
     ∙ (ap (λ (o : Option ℕ). option_map (master_log s tables) o) (range_at 0 s.shards shard inside) ∙ ap (λ n. Some (master_log s tables n)) from_zero)
@@ -93,18 +92,18 @@ covered logs threads refused requests some few (inr full) = omega (arith, full, 
 
 -- ---- the last of several shares
 
-module _ (tells : Bool) (m : Making) (log : LogNames) (threads : ℕ) (requests : List Request) (old new : List Share) (share : Share)
-    (is : old ≡ new ++ share ∷ []) (all : AreSharesOf tells m log threads requests old)
+module _ {M : Type 0} (on : OnCluster M) (threads : ℕ) (requests : List Request) (old new : List Share) (share : Share) (is : old ≡ new ++ share ∷ [])
+    (all : AreSharesOf on threads requests old)
   where
     front_at : (xs : List Share) (place : ℕ) (x : Share) → slice_get xs place ≡ Some x → slice_get (xs ++ share ∷ []) place ≡ Some x
     front_at [] place x at = absurd (cc)
     front_at (y ∷ ys) zero x at = at
     front_at (y ∷ ys) (suc place) x at = front_at ys place x at
 
-    pub last_share : IsShare tells m log threads (length new) requests share
+    pub last_share : IsShare on threads (length new) requests share
     last_share = all (length new) share (subst (λ xs. slice_get xs (length new) ≡ Some share) (sym is) (slice_get-last new share))
 
-    pub front_shares : AreSharesOf tells m log threads requests new
+    pub front_shares : AreSharesOf on threads requests new
     front_shares place x at = all place x (subst (λ xs. slice_get xs place ≡ Some x) (sym is) (front_at new place x at))
 
     -- one share more, all of which was seen
@@ -117,3 +116,7 @@ module _ (tells : Bool) (m : Making) (log : LogNames) (threads : ℕ) (requests 
       where
         long : length old ≡ suc (length new)
         long = omega (arith, ap length is, length-append new (share ∷ []))
+
+-- none was refused, nor of one share more
+pub none_more : (refused came now : ℕ) → refused ≡ 0 → came ≡ 0 → now ≡ min (refused + came) (2 ^ 64 - 1) → now ≡ 0
+none_more refused came now before next is = omega (arith, before, next, is)

@@ -1,6 +1,6 @@
 -- What the passes of a thread have seen, as one of them goes on.
-use Rattle.std.proofs.Common.{◌≡◌, ℕ, zero, suc, ◌<◌, List, [], ◌∷◌, Some, length, refl, sym, subst}
-use Rattle.std.specs.Prelude.{All, IsSomeAnd, None, Option, get_or, slice_get, slice_set}
+use Rattle.std.proofs.Common.{◌≡◌, ℕ, zero, suc, ◌<◌, List, [], ◌∷◌, Some, length, sym, subst}
+use Rattle.std.specs.Prelude.{All, IsSomeAnd, Option, get_or, slice_get, slice_set}
 use Rattle.std.specs.List.{AllByRecursion}
 use Rattle.std.proofs.lemmas.List.Elements.{All-from_recursion, recursion_from_All}
 use Rattle.std.proofs.lemmas.Option.{slice_get-get_or}
@@ -9,11 +9,8 @@ use Rattle.shard_log.proofs.Beginnings.{begins-trans}
 use Rattle.shard_log.specs.View.{Begins, Grows}
 use Rattle.shared_tiers.specs.locked_nodes.Passes.{PassGoesOn}
 use Rattle.tao_base.specs.declared.entry.Entry.{Entry}
+use Rattle.load_shares.proofs.Additions.{some_parts}
 use Rattle.load_shares.specs.Seen.{AllBegin, BeginLogs, SeeOn}
-
-pub some_parts : {X : Type 0} (P : X → Type 0) (o : Option X) → IsSomeAnd o P → (x : X) × (o ≡ Some x) × P x
-some_parts P None h = absurd h
-some_parts P (Some x) h = (x, refl, h)
 
 pub some_and : {X : Type 0} (P : X → Type 0) (o : Option X) (x : X) → o ≡ Some x → P x → IsSomeAnd o P
 some_and P o x at p = subst (λ q. IsSomeAnd q P) (sym at) p

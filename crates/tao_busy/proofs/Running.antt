@@ -1,16 +1,22 @@
 -- The calls of a thread so far.
-use Rattle.std.proofs.Common.{◌≡◌, ℕ, ◌+◌, ◌≤◌, ◌<◌, Bool, List, [], ◌∷◌, drop, length, refl, sym, ap, subst, ◌∙◌, arith}
-use Rattle.std.specs.Prelude.{All, get_or}
+use Rattle.std.proofs.Common.{◌≡◌, ℕ, ◌+◌, ◌≤◌, ◌<◌, Bool, List, [], ◌∷◌, drop, length, sym, ap, subst, ◌∙◌, arith}
+use Rattle.std.specs.Prelude.{◌||◌, All, get_or}
+use Rattle.std.proofs.lemmas.Bool.{or_parts}
 use Rattle.std.proofs.lemmas.List.{drop_more}
+use Rattle.std.proofs.lemmas.List.Elements.{All-from_recursion}
 use Rattle.graph_model.specs.Told.{WhereTold}
 use Rattle.load_audit.specs.Listed.{missing_adds}
 use Rattle.load_shares.proofs.Shared.{one_more}
-use Rattle.load_shares.specs.Seen.{AllBegin, EachPass, SeeOn}
+use Rattle.load_shares.specs.Seen.{AllBegin, SeeOn}
 use Rattle.load_shares.specs.Turns.{one_call, share_of, taken_of}
+use Rattle.load_shares.specs.Workloads.{IsConfigured}
+use Rattle.load_shares.specs.declared.tallies.Tally.{Tally}
 use Rattle.requests.specs.declared.request.Request.{Request}
 use Rattle.session_pass.specs.Passes.{SeenPass}
 use Rattle.tao_base.specs.declared.entry.Entry.{Entry}
+use Rattle.shared_tiers.specs.locked_nodes.Cluster.{OnCluster}
 use Rattle.tao_busy.specs.Counting.{MissesFew}
+use Rattle.tao_busy.specs.Refusing.{EachLog, HasOwnEntries, HaveClearWay, RefusesNoneOf}
 
 -- of the thread's calls among the requests no more additions are missed than were refused and are still to come
 abbrev pub MissesSoFar : Bool → ℕ → ℕ → List Request → ℕ → ℕ → ℕ → List SeenPass → Type 0
@@ -54,3 +60,30 @@ misses_last tells threads place requests index number refused passes none so tol
     let all = subst (λ rs. missing_adds logs (share_of threads place 0 requests) ≤ refused + missing_adds logs (share_of threads place number rs)) none
     (so told logs begin) in
     omega (arith, all)
+
+-- ---- what was refused of them
+
+module _ {M : Type 0} (on : OnCluster M) (requests : List Request) (index : ℕ) (request : Request) (inside : index < length requests)
+    (at : request ≡ get_or requests index request)
+  where
+    alone : (P : Request → Type 0) → All P requests → All P (request ∷ [])
+    alone P all = All-from_recursion P (request ∷ []) (subst P (sym at) (all index request inside), tt)
+
+    -- nothing is in the way of one of the requests
+    way_of : (logs : List (List Entry)) → HaveClearWay on logs requests → HaveClearWay on logs (request ∷ [])
+    way_of logs way = record {
+      steady = way.steady;
+      uncut = way.uncut;
+      limit = way.limit;
+      room = way.room;
+      configured = alone (IsConfigured on.making.settings) way.configured;
+      own = alone (λ one. EachLog (HasOwnEntries on.making.settings one) logs) way.own;
+    }
+
+    pub none_next : (tally came now : Tally) (old new : List SeenPass) → now.refused ≡ tally.refused + came.refused → now.short ≡ (tally.short || came.short)
+        → SeeOn old new → RefusesNoneOf on requests tally old → RefusesNoneOf on (request ∷ []) came new → RefusesNoneOf on requests now new
+    none_next tally came now old new adds shorts on_so before one told logs begin way well =
+        let parts = or_parts tally.short came.short (sym shorts ∙ well) in
+        let first = before told logs (on_so logs begin) way parts.0 in
+        let next = one told logs begin (way_of logs way) parts.1 in
+        omega (arith, adds, first, next)

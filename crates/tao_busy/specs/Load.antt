@@ -1,5 +1,6 @@
 -- What a load leaves, and why one comes to no summary.
 use Rattle.std.specs.Prelude.{ℕ, ◌≡◌, ◌≤◌, ◌<◌, ⊤, Bool, List, length}
+use Rattle.core_model.specs.Jobs.{IsFirstJobOf, far_shard, job_on}
 use Rattle.core_model.specs.Stores.{AreWhole, master_log, store_count, stores_in}
 use Rattle.counts.specs.Count.{Rose}
 use Rattle.graph_model.specs.Told.{WhereTold}
@@ -19,6 +20,7 @@ use Rattle.shared_tiers.specs.cluster_opening.Opening.{RefusesOver, shown_in}
 use Rattle.shared_tiers.specs.cluster_opening.declared.opening.OpenFail.{OpenFail}
 use Rattle.tao_keeper.specs.KeeperState.{KeeperState}
 use Rattle.tao_keeper.specs.Table.{Tables}
+use Rattle.tao_keeper.specs.declared.jobs.Job.{Job}
 use Rattle.tao_schema.specs.Schema.{types_of}
 use Rattle.topology.specs.Config.{Settings}
 use Rattle.write_model.specs.Machine.{ArePaired}
@@ -57,16 +59,23 @@ pub record LeavesLoad (s : Settings) (requests : List Request) (tables : Tables)
 abbrev pub faults_in : {M : Type 0} → (M → KeeperState) → List M → ℕ
 faults_in state keepers = total (λ keeper. (state keeper).faults) 0 keepers
 
--- the log of a shard has as many entries as it may
+-- the records of the first open job of the shard are owed where the log has as many entries as it may
+pub record OwesToFullLog (s : Settings) (tables : Tables) (shard : ℕ) : Type 0 where
+  pub job : Job
+  pub first : IsFirstJobOf s tables (job_on shard job)
+  pub full : s.log_max ≤ length (master_log s tables (far_shard job))
+
+-- what a configured shard owes first is owed where the log has as many entries as it may
 pub record HasFullLog (s : Settings) (tables : Tables) : Type 0 where
   pub shard : ℕ
-  pub full : s.log_max ≤ length (master_log s tables shard)
+  pub configured : shard < s.shards
+  pub owes : OwesToFullLog s tables shard
 
--- why a settle is stuck: a log is full; or keepers failed, as their counts rose. Links never fail
-abbrev pub IsStuckFor : {M : Type 0} → Bool → (M → KeeperState) → Settings → ℕ → List M → UnsettledWhy → Type 0
-IsStuckFor tells state s before keepers why.LogFull = WhereTold tells (HasFullLog s (told_in state s.shards keepers))
-IsStuckFor tells state s before keepers why.KeeperFault = Rose before (faults_in state keepers)
-IsStuckFor tells state s before keepers why.LinkFault = ⊥
+-- why a settle is stuck at a shard: its first open job is owed where the log is full; or keepers failed, as the one says. Links never fail
+abbrev pub IsStuckFor : Bool → Type 0 → Settings → Tables → ℕ → UnsettledWhy → Type 0
+IsStuckFor tells failed s tables shard why.LogFull = WhereTold tells (OwesToFullLog s tables shard)
+IsStuckFor tells failed s tables shard why.KeeperFault = failed
+IsStuckFor tells failed s tables shard why.LinkFault = ⊥
 
 -- the cluster wasn't made
 pub record RefusesOpen {M : Type 0} (tells : Bool) (state : M → KeeperState) (s : Settings) (line : List ℕ) (old : List M) (fail : OpenFail M) : Type 0 where
@@ -80,7 +89,8 @@ abbrev pub RefusesRun : {M : Type 0} → Bool → (M → KeeperState) → Settin
 RefusesRun tells state s requests before (Open fail) = ⊥
 RefusesRun tells state s requests before (OutOfMemory keepers) = length keepers.items ≡ store_count s
 RefusesRun tells state s requests before (Stuck shard why keepers) =
-    (length keepers.items ≡ store_count s) × (shard < s.shards) × IsStuckFor tells state s before keepers.items why
+    (length keepers.items ≡ store_count s) × (shard < s.shards)
+    × IsStuckFor tells (Rose before (faults_in state keepers.items)) s (told_in state s.shards keepers.items) shard why
 RefusesRun tells state s requests before (KeeperFault keepers) = (length keepers.items ≡ store_count s) × Rose before (faults_in state keepers.items)
 RefusesRun tells state s requests before (Stranger shard position keepers) =
     (length keepers.items ≡ store_count s) × WhereTold tells (IsFirstStranger s (told_in state s.shards keepers.items) requests shard position)
@@ -92,8 +102,14 @@ RefusesLoad tells state asked old refusal = RefusesRun tells state asked.config.
 
 -- ---- the end
 
+-- the reply is neither that of a settle that came to its end, nor that of one that stopped at a shard
+abbrev pub SaysNeither : Reply → Type 0
+SaysNeither (Settled logs) = ⊥
+SaysNeither (Refused (Store (Unsettled shard why))) = ⊥
+SaysNeither other = ⊤
+
 -- what the reply to a settle says of it
 abbrev pub SaysCame : Reply → Came → Type 0
 SaysCame said came.Settled = (logs : List ℕ) × (said ≡ Settled logs)
 SaysCame said (came.Stuck shard why) = said ≡ Refused (Store (Unsettled shard why))
-SaysCame said came.OutOfMemory = ⊤
+SaysCame said came.OutOfMemory = SaysNeither said

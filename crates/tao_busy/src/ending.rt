@@ -8,15 +8,18 @@ ghost use Rattle.load_audit.specs.Listed.{IsWorkload, missing_adds};
 ghost use Rattle.replies.specs.declared.refusals.UnsettledWhy.TheVariants.{LinkFault as LinkFailed, LogFull as Full};
 ghost use Rattle.requests.specs.declared.request.Request.{Request as OneRequest};
 ghost use Rattle.shared_tiers.specs.cluster_closing.unlocked_nodes.Unlocked.{MaySettle};
+ghost use Rattle.shared_tiers.specs.locked_nodes.Cluster.{on_cluster};
 ghost use Rattle.tao_busy.specs.Counting.{AreShares, AreWell};
-ghost use Rattle.tao_busy.specs.Ending.{ComesToEnd, KeepsLogs};
-ghost use Rattle.tao_busy.specs.Load.{HasFullLog, IsSettledLoad, RefusesRun, SaysCame};
+ghost use Rattle.tao_busy.specs.Ending.{ComesToEnd, KeepsLogs, load_start};
+ghost use Rattle.tao_busy.specs.Load.{IsSettledLoad, OwesToFullLog, RefusesRun, SaysCame};
+ghost use Rattle.tao_busy.specs.Refusing.{HaveClearWay};
 ghost use Rattle.topology.specs.Config.{Settings};
 
 use crate::asked::{BusyRefusal, LoadSummary};
 use crate::meeting::{is_any_short, meet_shares};
 use crate::shares::Share;
 use load_audit::{AuditRefusal, LoadAudit, audit};
+use load_shares::has_choices;
 use replies::{Refusal, Reply, StoreRefused, UnsettledWhy};
 use requests::Request;
 use shared_stores::Sharing;
@@ -62,7 +65,8 @@ fn came_of(said: &Reply) -> Came
 fn stuck<M: Keeper>(shard: u16, why: UnsettledWhy, before: u64, keepers: Vec<M>) -> BusyRefusal<M>
     requires { why ≡ LinkFailed → ⊥ }
     ensures { (s : Settings) (requests : List OneRequest) → length keepers.items ≡ store_count s → shard < s.shards
-        → (why ≡ Full → WhereTold M.TELLS (HasFullLog s (told_in M.state s.shards keepers.items))) → RefusesRun M.TELLS M.state s requests before result }
+        → (why ≡ Full → WhereTold M.TELLS (OwesToFullLog s (told_in M.state s.shards keepers.items) shard))
+        → RefusesRun M.TELLS M.state s requests before result }
 {
     match why {
         UnsettledWhy::KeeperFault => {
@@ -137,7 +141,7 @@ fn unaudited<M: Keeper>(why: AuditRefusal, before: u64, keepers: Vec<M>) -> Busy
 }
 
 /// The summary of a load that was settled, by the logs that the keepers tell.
-fn summed<M: Keeper + Drop>(
+fn summed<M: Keeper + Drop, J: Sharing>(
     alloc: Global,
     config: &Config,
     requests: &[Request],
@@ -145,12 +149,16 @@ fn summed<M: Keeper + Drop>(
     before: u64,
     keepers: Vec<M>,
 ) -> Result<(LoadSummary, Vec<M>), BusyRefusal<M>>
+    requires config { config.now ≡ J.making.settings }
     requires listed { IsWorkload config.now requests.now }
     requires many { length keepers.items ≡ store_count config.now }
     requires settled { WhereTold M.TELLS (IsSettledLoad config.now (told_in M.state config.now.shards keepers.items)) }
     requires few { WhereTold M.TELLS (missing_adds (logs_in config.now (told_in M.state config.now.shards keepers.items)) requests.now ≤ refused) }
-    ensures ends { ComesToEnd M.TELLS M.state config.now requests.now before result }
+    requires none { WhereTold M.TELLS (HaveClearWay (on_cluster M.TELLS M.state J.making J.log)
+        (logs_in config.now (told_in M.state config.now.shards keepers.items)) requests.now → refused ≡ 0) }
+    ensures ends { ComesToEnd M.TELLS M.state config.now requests.now (load_start before J.making.cut) result }
 {
+    has_choices(config);
     let Audited { found, keepers } = audit_placed::<M, Brand>(alloc, config, requests, keepers);
     match found {
         Ok(LoadAudit { logs, edges }) => Ok((
@@ -178,17 +186,17 @@ fn end_settled<M: Keeper + Drop, J: Sharing>(
     requires many { length closed.keepers.items ≡ store_count J.making.settings }
     requires listed { IsWorkload J.making.settings ran.requests.items }
     requires some { 0 < length ran.shares.items }
-    requires shares { AreShares M.TELLS J.making J.log (length ran.shares.items) ran.requests.items ran.shares.items }
+    requires shares { AreShares (on_cluster M.TELLS M.state J.making J.log) (length ran.shares.items) ran.requests.items ran.shares.items }
     requires well { AreWell ran.shares.items }
     requires settled { WhereTold M.TELLS (IsSettledLoad J.making.settings (told_in M.state J.making.settings.shards closed.keepers.items)) }
-    ensures ends { ComesToEnd M.TELLS M.state J.making.settings ran.requests.items before result }
+    ensures ends { ComesToEnd M.TELLS M.state J.making.settings ran.requests.items (load_start before J.making.cut) result }
 {
     let mut closed = closed;
     let Ran { requests, shares } = ran;
     match meet_shares(&mut closed, config.shards, shares, requests.as_slice()) {
         Ok(refused) => {
             let keepers = closed.keepers();
-            summed(alloc, config, requests.as_slice(), refused, before, keepers)
+            summed::<M, J>(alloc, config, requests.as_slice(), refused, before, keepers)
         }
         Err(OutOfMemory) => Err(BusyRefusal::OutOfMemory {
             keepers: closed.keepers(),
@@ -209,8 +217,8 @@ pub(crate) fn end_load<M: Keeper + Drop, J: Sharing>(
     requires many { length closed.keepers.items ≡ store_count J.making.settings }
     requires listed { IsWorkload J.making.settings ran.requests.items }
     requires some { 0 < length ran.shares.items }
-    requires shares { AreShares M.TELLS J.making J.log (length ran.shares.items) ran.requests.items ran.shares.items }
-    ensures ends { ComesToEnd M.TELLS M.state J.making.settings ran.requests.items before result }
+    requires shares { AreShares (on_cluster M.TELLS M.state J.making J.log) (length ran.shares.items) ran.requests.items ran.shares.items }
+    ensures ends { ComesToEnd M.TELLS M.state J.making.settings ran.requests.items (load_start before J.making.cut) result }
 {
     let mut closed = closed;
     if is_any_short(ran.shares.as_slice()) {

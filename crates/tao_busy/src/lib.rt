@@ -4,16 +4,17 @@
 //! its logs, and these are read.
 //!
 //! What it promises. With a summary the tables are settled and paired; the lengths of the logs, and the edges that these leave live, are those that it tells;
-//! each client's entry is of one of the workload's requests; and of its additions no more are in no log than calls were refused. Else the cause is told, and
-//! the keepers come back, one for each store.
+//! each client's entry is of one of the workload's requests; and of its additions no more are in no log than calls were refused. None was where nothing was in
+//! its way: keepers never fail, no entry was old, and no log came to its end. Else the cause is told, and the keepers come back, one for each store.
 //!
-//! Not said by any contract: when a gate is told of a read, that no call is refused where nothing was full, and which entries the logs have where there is
-//! no summary.
+//! Not said by any contract: when a gate is told of a read, which entries the logs have where there is no summary, and that a log at which a settle is stuck is
+//! one of a configured shard.
 //!
 //! The contracts that say so: `load`.
 #![tactic(auto)]
 
 mod asked;
+mod draining;
 mod ending;
 mod gate;
 mod hands;

@@ -6,14 +6,17 @@ ghost use Rattle.keepers.specs.Shown.{told_in};
 ghost use Rattle.load_gen.specs.Requests.{requests_of};
 ghost use Rattle.shared_tiers.specs.cluster_opening.Opening.{HaveTheirJobs, IsOpenedOver, logs_of, making_of};
 ghost use Rattle.shared_tiers.specs.cluster_opening.locked_nodes.core_nodes.Opening.{IsOpened, MayOpen};
+ghost use Rattle.shared_tiers.specs.locked_nodes.Cluster.{on_cluster};
 ghost use Rattle.tao_busy.specs.Counting.{AreShares};
-ghost use Rattle.tao_busy.specs.Ending.{EndsLoad};
+ghost use Rattle.tao_busy.specs.Ending.{CountsNone, EndsLoad};
 ghost use Rattle.tao_busy.specs.Load.{LeavesLoad, RefusesLoad, faults_in, requests_asked};
+ghost use Rattle.tao_busy.specs.Refusing.{cuts_in};
 
 use crate::asked::{BusyRefusal, LoadAsked, LoadSummary};
 use crate::ending::{Ran, end_load};
 use crate::gate::Gate;
 use crate::shares::run_shares;
+use core_model::masters_are_regions;
 use load_shares::list_requests;
 use shared_stores::Sharing;
 use shared_tiers::Cluster;
@@ -41,7 +44,7 @@ fn run_cluster<
     requires { 0 < asked.now.threads }
     ensures listed { IfOk result (λ ran. ran.requests.items ≡ requests_asked asked.now) }
     ensures many { IfOk result (λ ran. length ran.shares.items ≡ asked.now.threads) }
-    ensures shares { IfOk result (λ ran. AreShares M.TELLS J.making J.log asked.now.threads ran.requests.items ran.shares.items) }
+    ensures shares { IfOk result (λ ran. AreShares (on_cluster M.TELLS M.state J.making J.log) asked.now.threads ran.requests.items ran.shares.items) }
 {
     let requests = list_requests(alloc, asked.config, asked.seed, asked.calls)?;
     let shares = run_shares(rt, alloc, cluster, requests.as_slice(), asked.threads, gate)?;
@@ -111,8 +114,9 @@ fn load_opened<M: Keeper + Drop + Send, R: Threads + Wait + Sync, G: Gate + Sync
 /// node or store, and is never refused.
 ///
 /// With a summary the tables that the keepers then tell are settled and paired; it has the lengths of the logs and the number of edges that these leave live;
-/// each client's entry is of one of the workload's requests; and no more of its additions are in no log than calls were refused. Where there is none the
-/// keepers come back too, in order of region, then of shard. Takes memory for each request.
+/// each client's entry is of one of the workload's requests; and no more of its additions are in no log than calls were refused. No call was, where keepers of
+/// the type never fail, no entry was old at first, as none is in an empty store, and at last no log has as many entries as it may, and no record in one the
+/// last number of a stamp. Where there is no summary the keepers come back too, in order of region, then of shard. Takes memory for each request.
 pub fn load<M: Keeper + Drop + Send, R: Threads + Wait + Sync, G: Gate + Sync>(
     rt: &R,
     alloc: Global,
@@ -127,8 +131,11 @@ pub fn load<M: Keeper + Drop + Send, R: Threads + Wait + Sync, G: Gate + Sync>(
     ensures many { IfOk result (λ r. length r.1.items ≡ store_count asked.now.config.now) }
     ensures leaves { WhereTold M.TELLS (IfOk result (λ r.
         LeavesLoad asked.now.config.now (requests_asked asked.now) (told_in M.state asked.now.config.now.shards r.1.items) r.0)) }
+    ensures none { IfOk result (λ r. CountsNone M.TELLS M.state asked.now.config.now
+        (cuts_in asked.now.config.now (told_in M.state asked.now.config.now.shards keepers.items)) r.0 r.1.items) }
     ensures refuses { IfErr result (RefusesLoad M.TELLS M.state asked.now keepers.items) }
 {
+    masters_are_regions(asked.config);
     let before = faults_of(&keepers);
     match Opened::open(alloc, asked.config, asked.line, keepers) {
         Ok(opened) => load_opened(rt, alloc, asked, opened, gate, before),

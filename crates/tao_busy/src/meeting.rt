@@ -6,8 +6,10 @@ ghost use Rattle.load_audit.specs.Audits.{logs_in};
 ghost use Rattle.load_audit.specs.Listed.{missing_adds};
 ghost use Rattle.load_shares.specs.Seen.{AllBegin, BeginLogs, EachPass};
 ghost use Rattle.shared_tiers.specs.cluster_closing.unlocked_nodes.Unlocked.{MaySettle};
+ghost use Rattle.shared_tiers.specs.locked_nodes.Cluster.{on_cluster};
 ghost use Rattle.shared_tiers.specs.locked_nodes.Passes.{IsPassOf};
 ghost use Rattle.tao_busy.specs.Counting.{AreShares, AreWell, BeginsLog};
+ghost use Rattle.tao_busy.specs.Refusing.{HaveClearWay};
 
 use crate::shares::Share;
 use requests::Request;
@@ -93,7 +95,7 @@ fn meet_passes<K: Keeper, J: Sharing>(
 }
 
 /// How many calls the threads were refused, where all that they were told stands in the logs that the closed cluster has: of the requests' additions no more
-/// are in none of these logs.
+/// are in none of these logs, and none was refused where nothing was in the requests' way.
 pub(crate) fn meet_shares<K: Keeper, J: Sharing>(
     closed: &mut Closed<'_, K, J>,
     shards: u16,
@@ -103,10 +105,12 @@ pub(crate) fn meet_shares<K: Keeper, J: Sharing>(
     requires ready { MaySettle K.TELLS J.making J.log (told_in K.state J.making.settings.shards closed.old.keepers.items) closed.old.unlocked }
     requires shards { shards ≡ J.making.settings.shards }
     requires some { 0 < length shares.items }
-    requires shares { AreShares K.TELLS J.making J.log (length shares.items) requests.now shares.items }
+    requires shares { AreShares (on_cluster K.TELLS K.state J.making J.log) (length shares.items) requests.now shares.items }
     requires well { AreWell shares.items }
     ensures few { WhereTold K.TELLS (IfOk result (λ refused.
         missing_adds (logs_in J.making.settings (told_in K.state J.making.settings.shards closed.old.keepers.items)) requests.now ≤ refused)) }
+    ensures none { WhereTold K.TELLS (IfOk result (λ refused. HaveClearWay (on_cluster K.TELLS K.state J.making J.log)
+        (logs_in J.making.settings (told_in K.state J.making.settings.shards closed.old.keepers.items)) requests.now → refused ≡ 0)) }
     ensures unlocked { closed.new.unlocked ≡ closed.old.unlocked }
     ensures keepers { closed.new.keepers ≡ closed.old.keepers }
 {

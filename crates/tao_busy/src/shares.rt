@@ -1,13 +1,16 @@
 //! The threads of a load, and the calls of each.
-ghost use Rattle.std.specs.Prelude.{◌≡◌, ◌≤◌, ◌<◌, ◌+◌, ◌^◌, ◌∷◌, [], IfOk, length};
+ghost use Rattle.std.specs.Prelude.{◌≡◌, ◌≤◌, ◌<◌, ◌+◌, ◌^◌, ◌∷◌, ◌||◌, [], IfOk, length};
 ghost use Rattle.std.specs.Vec.{vec_len};
 ghost use Rattle.shared_tiers.specs.cluster_pumps.Hands.{IsHandOf};
+ghost use Rattle.shared_tiers.specs.locked_nodes.Cluster.{on_cluster};
 ghost use Rattle.shared_tiers.specs.locked_nodes.Passes.{IsPassOf};
 ghost use Rattle.tao_busy.specs.Counting.{AreShares, IsShare, MissesFew};
 ghost use Rattle.tao_busy.specs.Hands.{EachHand};
+ghost use Rattle.tao_busy.specs.Refusing.{HaveEachSession, RefusesNoneOf};
 ghost use Rattle.load_shares.specs.Seen.{EachPass, SeeOn};
 ghost use Rattle.load_shares.specs.Turns.{share_of, taken_of};
 
+use crate::draining::drain;
 use crate::gate::Gate;
 use crate::hands::take_hands;
 use crate::link::GateLink;
@@ -44,11 +47,14 @@ fn take_in_turn<K: Keeper, J: Sharing, R: Wait, G: Gate>(
     requires turn { 0 < turn.threads }
     requires passes { EachPass (IsPassOf J.making J.log) worker.old.passes.items }
     requires hands { EachHand (IsHandOf J.making cluster.now) worker.old.hands.items }
+    requires sessions { HaveEachSession J.making.settings worker.old.passes.items }
     ensures passes { EachPass (IsPassOf J.making J.log) worker.new.passes.items }
     ensures hands { EachHand (IsHandOf J.making cluster.now) worker.new.hands.items }
+    ensures sessions { HaveEachSession J.making.settings worker.new.passes.items }
     ensures on { SeeOn worker.old.passes.items worker.new.passes.items }
     ensures one { result.refused ≤ 1 }
     ensures few { MissesFew K.TELLS (taken_of turn.threads turn.place number request.now) result.refused worker.new.passes.items }
+    ensures none { RefusesNoneOf (on_cluster K.TELLS K.state J.making J.log) (request.now ∷ []) result worker.new.passes.items }
 {
     if turn.takes(request, number) {
         take(rt, cluster, worker, request, number)
@@ -60,7 +66,8 @@ fn take_in_turn<K: Keeper, J: Sharing, R: Wait, G: Gate>(
 /// What came of calls, and of more of them.
 fn add_tally(tally: Tally, came: Tally) -> Tally
     requires { tally.refused + came.refused < 2 ^ 64 }
-    ensures { result.refused ≡ tally.refused + came.refused }
+    ensures refused { result.refused ≡ tally.refused + came.refused }
+    ensures short { result.short ≡ (tally.short || came.short) }
 {
     Tally {
         refused: tally.refused + came.refused,
@@ -79,8 +86,10 @@ fn run_calls<K: Keeper, J: Sharing, R: Wait, G: Gate>(
     requires turn { 0 < turn.threads }
     requires passes { EachPass (IsPassOf J.making J.log) worker.old.passes.items }
     requires hands { EachHand (IsHandOf J.making cluster.now) worker.old.hands.items }
+    requires sessions { HaveEachSession J.making.settings worker.old.passes.items }
     ensures passes { EachPass (IsPassOf J.making J.log) worker.new.passes.items }
     ensures few { MissesFew K.TELLS (share_of turn.threads turn.place 0 requests.now) result.refused worker.new.passes.items }
+    ensures none { RefusesNoneOf (on_cluster K.TELLS K.state J.making J.log) requests.now result worker.new.passes.items }
 {
     let mut tally = no_tally();
     let mut number = 0_u64;
@@ -101,6 +110,7 @@ fn begin<'g, K: Keeper, J: Sharing, R: Wait, G: Gate>(
 ) -> Result<Worker<'g, G, J>, OutOfMemory>
     ensures passes { IfOk result (λ worker. EachPass (IsPassOf J.making J.log) worker.passes.items) }
     ensures hands { IfOk result (λ worker. EachHand (IsHandOf J.making cluster.now) worker.hands.items) }
+    ensures sessions { IfOk result (λ worker. HaveEachSession J.making.settings worker.passes.items) }
 {
     Ok(Worker {
         passes: open_passes(rt, alloc, cluster)?,
@@ -109,7 +119,7 @@ fn begin<'g, K: Keeper, J: Sharing, R: Wait, G: Gate>(
     })
 }
 
-/// Makes the calls of a thread.
+/// Makes the calls of a thread, and then pumps out the nodes that are its.
 fn run_share<K: Keeper, J: Sharing, R: Wait, G: Gate>(
     rt: &R,
     alloc: Global,
@@ -119,12 +129,13 @@ fn run_share<K: Keeper, J: Sharing, R: Wait, G: Gate>(
     gate: &G,
 ) -> Share
     requires { 0 < turn.threads }
-    ensures { IsShare K.TELLS J.making J.log turn.threads turn.place requests.now result }
+    ensures { IsShare (on_cluster K.TELLS K.state J.making J.log) turn.threads turn.place requests.now result }
 {
     match begin(rt, alloc, cluster, gate) {
         Ok(mut worker) => {
             let tally = run_calls(rt, cluster, &mut worker, turn, requests);
             let Worker { passes, .. } = worker;
+            drain(rt, alloc, cluster, turn);
             Share { passes, tally }
         }
         Err(OutOfMemory) => Share {
@@ -148,7 +159,7 @@ fn run_place<K: Keeper, J: Sharing, R: Wait, G: Gate>(
     gate: &G,
 ) -> Share
     requires { 0 < threads }
-    ensures { IsShare K.TELLS J.making J.log threads place requests.now result }
+    ensures { IsShare (on_cluster K.TELLS K.state J.making J.log) threads place requests.now result }
 {
     let turn = Turn {
         threads: u64::from(threads),
@@ -172,7 +183,7 @@ pub(crate) fn run_shares<
     gate: &G,
 ) -> Result<Vec<Share>, OutOfMemory>
     requires { 0 < threads }
-    ensures { IfOk result (λ shares. AreShares K.TELLS J.making J.log threads requests.now shares.items) }
+    ensures { IfOk result (λ shares. AreShares (on_cluster K.TELLS K.state J.making J.log) threads requests.now shares.items) }
 {
     let shares = thread::map_indices(
         rt,
@@ -180,7 +191,7 @@ pub(crate) fn run_shares<
         threads as usize,
         &|place: usize| -> Share
             requires { 0 < threads }
-            ensures { IsShare K.TELLS J.making J.log threads place requests.entry.now result }
+            ensures { IsShare (on_cluster K.TELLS K.state J.making J.log) threads place requests.entry.now result }
         { run_place(rt, alloc, cluster, requests, threads, place, gate) },
     )?;
     Ok(shares)

@@ -1,10 +1,12 @@
 //! The calls of a thread.
-ghost use Rattle.std.specs.Prelude.{◌≡◌, ◌≤◌, ◌<◌, ◌∷◌, [], length};
+ghost use Rattle.std.specs.Prelude.{◌≡◌, ◌≤◌, ◌<◌, ◌+◌, ◌∷◌, [], length};
 ghost use Rattle.shared_tiers.specs.cluster_pumps.Hands.{IsHandOf};
+ghost use Rattle.shared_tiers.specs.locked_nodes.Cluster.{on_cluster};
 ghost use Rattle.shared_tiers.specs.locked_nodes.Passes.{IsPassOf, PassGoesOn};
 ghost use Rattle.tao_busy.specs.Hands.{EachHand};
 ghost use Rattle.load_shares.specs.Seen.{EachPass, SeeOn};
 ghost use Rattle.tao_busy.specs.Counting.{MissesFew, MissesNone};
+ghost use Rattle.tao_busy.specs.Refusing.{HaveEachSession, IsCallOf, RefusesNoneOf, RefusesNot, RefusesNotOf};
 
 use crate::gate::Gate;
 use crate::hands::hand_place;
@@ -43,6 +45,7 @@ fn ask_by<K: Keeper, J: Sharing, R: Wait, G: Gate>(
     ensures on { PassGoesOn pass.old pass.new }
     ensures one { result.refused ≤ 1 }
     ensures few { MissesNone K.TELLS request.now result.refused pass.new.notes }
+    ensures none { RefusesNot (on_cluster K.TELLS K.state J.making J.log) pass.old.session request.now result pass.new.notes }
 {
     link.begin(reading_of(request, number));
     let said = cluster.call(rt, pass, link, request);
@@ -64,10 +67,13 @@ fn ask_at<K: Keeper, J: Sharing, R: Wait, G: Gate>(
 ) -> Tally
     requires inside { place < length passes.old }
     requires passes { EachPass (IsPassOf J.making J.log) passes.old }
+    requires sessions { HaveEachSession J.making.settings passes.old }
     ensures passes { EachPass (IsPassOf J.making J.log) passes.new }
+    ensures sessions { HaveEachSession J.making.settings passes.new }
     ensures on { SeeOn passes.old passes.new }
     ensures one { result.refused ≤ 1 }
     ensures few { MissesFew K.TELLS (request.now ∷ []) result.refused passes.new }
+    ensures none { RefusesNotOf (on_cluster K.TELLS K.state J.making J.log) (place + 1) request.now result passes.new }
 {
     ask_by(rt, cluster, &mut passes[place], link, request, number)
 }
@@ -82,10 +88,14 @@ fn ask<K: Keeper, J: Sharing, R: Wait, G: Gate>(
     number: u64,
 ) -> Tally
     requires passes { EachPass (IsPassOf J.making J.log) worker.old.passes.items }
+    requires sessions { HaveEachSession J.making.settings worker.old.passes.items }
+    requires session { IsCallOf session request.now }
     ensures passes { EachPass (IsPassOf J.making J.log) worker.new.passes.items }
+    ensures sessions { HaveEachSession J.making.settings worker.new.passes.items }
     ensures on { SeeOn worker.old.passes.items worker.new.passes.items }
     ensures one { result.refused ≤ 1 }
     ensures few { MissesFew K.TELLS (request.now ∷ []) result.refused worker.new.passes.items }
+    ensures none { RefusesNoneOf (on_cluster K.TELLS K.state J.making J.log) (request.now ∷ []) result worker.new.passes.items }
     ensures hands { worker.new.hands ≡ worker.old.hands }
 {
     let place = session.saturating_sub(1) as usize;
@@ -159,11 +169,14 @@ pub(crate) fn take<K: Keeper, J: Sharing, R: Wait, G: Gate>(
 ) -> Tally
     requires passes { EachPass (IsPassOf J.making J.log) worker.old.passes.items }
     requires hands { EachHand (IsHandOf J.making cluster.now) worker.old.hands.items }
+    requires sessions { HaveEachSession J.making.settings worker.old.passes.items }
     ensures passes { EachPass (IsPassOf J.making J.log) worker.new.passes.items }
     ensures hands { EachHand (IsHandOf J.making cluster.now) worker.new.hands.items }
+    ensures sessions { HaveEachSession J.making.settings worker.new.passes.items }
     ensures on { SeeOn worker.old.passes.items worker.new.passes.items }
     ensures one { result.refused ≤ 1 }
     ensures few { MissesFew K.TELLS (request.now ∷ []) result.refused worker.new.passes.items }
+    ensures none { RefusesNoneOf (on_cluster K.TELLS K.state J.making J.log) (request.now ∷ []) result worker.new.passes.items }
 {
     match request {
         Request::Call(call) => ask(rt, cluster, worker, call.session(), request, number),

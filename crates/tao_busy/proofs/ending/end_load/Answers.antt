@@ -2,7 +2,7 @@ use Rattle.std.proofs.Common.{ap, length, refl, subst, sym, ◌∙◌}
 use Rattle.graph_model.specs.Told.{WhereTold}
 use Rattle.keepers.specs.Shown.{told_in}
 use Rattle.tao_busy.proofs.Ends.{settled_so, stuck_so}
-use Rattle.tao_busy.specs.Load.{HasFullLog, SaysCame}
+use Rattle.tao_busy.specs.Load.{OwesToFullLog, SaysCame}
 use Rattle.tao_busy.proofs.ending.end_load.Goals as goal
 
 pub end_settled-requires-clause-settled : goal.end_settled-requires-clause-settled
@@ -31,5 +31,6 @@ returns-in-Stuck g c =
     c.in-Stuck.shard c.in-Stuck.why refl refl said c.settle-said.ensures.does in
     record {
       ends = c.stuck.ensures s c.args.ran.requests.items (ap length c.keepers-in-Stuck.ensures ∙ c.settle-said.ensures.many ∙ c.requires.many) at.here
-          (λ full. subst (λ ks. WhereTold tells (HasFullLog s (told_in state s.shards ks))) (sym c.keepers-in-Stuck.ensures) (at.full full));
+          (λ full. subst (λ ks. WhereTold tells (OwesToFullLog s (told_in state s.shards ks) c.in-Stuck.shard)) (sym c.keepers-in-Stuck.ensures)
+          (at.full full));
     }

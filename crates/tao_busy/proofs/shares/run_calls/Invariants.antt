@@ -3,6 +3,8 @@ use Rattle.shared_tiers.specs.cluster_pumps.Hands.{IsHandOf}
 use Rattle.shared_tiers.specs.locked_nodes.Passes.{IsPassOf}
 use Rattle.load_shares.specs.Seen.{EachPass}
 use Rattle.tao_busy.specs.Hands.{EachHand}
+use Rattle.shared_tiers.specs.locked_nodes.Cluster.{on_cluster}
+use Rattle.tao_busy.specs.Refusing.{HaveEachSession, RefusesNoneOf}
 use Rattle.tao_busy.proofs.Running.{MissesSoFar}
 use Rattle.tao_busy.proofs.shares.run_calls.Given as goal
 
@@ -13,5 +15,7 @@ invariant-loop-request g l = record {
   hands : EachHand (IsHandOf g.J.Sharing.making l.cluster) l.worker.hands.items;
   few : l.tally.refused ≤ l.request-index;
   numbers : l.number ≤ l.request-index;
+  sessions : HaveEachSession g.J.Sharing.making.settings l.worker.passes.items;
   misses : MissesSoFar g.K.Keeper.TELLS l.turn.threads l.turn.place l.requests l.request-index l.number l.tally.refused l.worker.passes.items;
+  none : RefusesNoneOf (on_cluster g.K.Keeper.TELLS g.K.Keeper.state g.J.Sharing.making g.J.Logs.log) l.requests l.tally l.worker.passes.items;
 }

@@ -10,6 +10,8 @@ mod clients;
 #[cfg(test)]
 mod closing;
 #[cfg(test)]
+mod loading;
+#[cfg(test)]
 mod many_counts;
 #[cfg(test)]
 mod opening;

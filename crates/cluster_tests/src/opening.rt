@@ -21,6 +21,14 @@ use std::sync::Wait;
 use std::thread::Threads;
 use topology::Config;
 
+/// One region, one tier and one shard.
+pub(crate) const SMALL: &str =
+    "{\"assocs\":[{\"name\":\"likes\"}],\"objects\":[\"user\"],\"regions\":[{\"name\":\"east\",\"tiers\":[{\"name\":\"t1\"}]}],\"shards\":1}";
+
+/// Two regions, the first of which is the master of both shards.
+pub(crate) const WIDE: &str =
+    "{\"assocs\":[{\"name\":\"likes\"},{\"inverse\":\"friend\",\"name\":\"friend\"},{\"inverse\":\"followed_by\",\"name\":\"follows\"},{\"inverse\":\"follows\",\"name\":\"followed_by\"}],\"objects\":[\"user\"],\"regions\":[{\"leaders\":2,\"name\":\"east\",\"tiers\":[{\"name\":\"t1\"},{\"name\":\"t2\"}]},{\"name\":\"west\",\"tiers\":[{\"name\":\"t1\"}]}],\"shards\":2}";
+
 /// So many keepers with no stores.
 fn steady_keepers(alloc: Global, count: usize) -> Result<Vec<SteadyKeeper>, AllocError>
     ensures many { IfOk result (λ keepers. length keepers.items ≡ count) }
@@ -36,7 +44,7 @@ fn steady_keepers(alloc: Global, count: usize) -> Result<Vec<SteadyKeeper>, Allo
 
 /// A keeper for each store of the configuration, over which any line may open them.
 #[tactic(auto, using(crate::proofs::EmptyStores::empty_may_open, crate::proofs::EmptyStores::empty_have_jobs))]
-fn keepers_for(alloc: Global, config: &Config) -> Result<Vec<SteadyKeeper>, AllocError>
+pub(crate) fn keepers_for(alloc: Global, config: &Config) -> Result<Vec<SteadyKeeper>, AllocError>
     ensures many { IfOk result (λ keepers. length keepers.items ≡ store_count config.now) }
     ensures may { IfOk result (λ keepers. (line : List ℕ) → MayOpen config.now line (told_in shown_steady config.now.shards keepers.items)) }
     ensures jobs { IfOk result (λ keepers. HaveTheirJobs config.now (told_in shown_steady config.now.shards keepers.items)) }

@@ -1,20 +1,12 @@
 //! What clusters of three configurations say, line by line.
 use crate::asking::{Ask, ListOf};
-use crate::opening::played;
+use crate::opening::{SMALL, WIDE, played};
 use crate::playing::{Closing, Play, Step};
 use std::alloc::Global;
 use std::process::Abort;
 use std::sync::Wait;
 use std::test::Fail;
 use std::thread::Threads;
-
-/// One region, one tier and one shard.
-const SMALL: &str =
-    "{\"assocs\":[{\"name\":\"likes\"}],\"objects\":[\"user\"],\"regions\":[{\"name\":\"east\",\"tiers\":[{\"name\":\"t1\"}]}],\"shards\":1}";
-
-/// Two regions, the first of which is the master of both shards.
-const WIDE: &str =
-    "{\"assocs\":[{\"name\":\"likes\"},{\"inverse\":\"friend\",\"name\":\"friend\"},{\"inverse\":\"followed_by\",\"name\":\"follows\"},{\"inverse\":\"follows\",\"name\":\"followed_by\"}],\"objects\":[\"user\"],\"regions\":[{\"leaders\":2,\"name\":\"east\",\"tiers\":[{\"name\":\"t1\"},{\"name\":\"t2\"}]},{\"name\":\"west\",\"tiers\":[{\"name\":\"t1\"}]}],\"shards\":2}";
 
 /// The same, where each node holds one item.
 const NARROW: &str =
@@ -29,6 +21,27 @@ const FAR: u64 = 281_474_976_710_657;
 /// The reply to an add that takes two hops, and stands first in its shard's log.
 const ADDED: &str =
     "{\"changed\":true,\"hops\":2,\"inverse\":\"none\",\"ok\":\"assoc_add\",\"position\":1,\"retry\":false}";
+
+/// What is said to the steps and then of the closed cluster: the reply to a settle, what notes see, the marks of the nodes, and what the stores keep.
+const CLOSED: [&str; 17] = [
+    "{\"changed\":true,\"hops\":4,\"inverse\":\"written\",\"ok\":\"assoc_add\",\"position\":1,\"retry\":false}",
+    "{\"changed\":true,\"hops\":6,\"inverse\":\"written\",\"ok\":\"assoc_add\",\"position\":2,\"retry\":false}",
+    "{\"changed\":true,\"hops\":2,\"inverse\":\"none\",\"ok\":\"assoc_add\",\"position\":3,\"retry\":false}",
+    "shard 1 position 1 dropped 0, shard 1 position 2 dropped 0, empty",
+    "{\"logs\":[3,2],\"ok\":\"settle\"}",
+    "notes see 3 2",
+    "east/leader/0 marks 3 0",
+    "east/leader/1 marks 0 2",
+    "east/t1/0 marks 3 2",
+    "east/t2/0 marks 3 2",
+    "west/leader/0 marks 3 2",
+    "west/t1/0 marks 3 2",
+    "east/store/0 keeps 3",
+    "east/store/1 keeps 2",
+    "west/store/0 keeps 3",
+    "west/store/1 keeps 2",
+    "keepers 4 faults 0",
+];
 
 /// A play on a cluster of a configuration, with what is to be said.
 #[derive(Clone, Copy)]
@@ -215,25 +228,7 @@ fn a_closed_cluster_settles(rt: HostRuntime) -> Result<(), Fail> {
                 "west/store/1",
             ],
         }),
-        want: &[
-            "{\"changed\":true,\"hops\":4,\"inverse\":\"written\",\"ok\":\"assoc_add\",\"position\":1,\"retry\":false}",
-            "{\"changed\":true,\"hops\":6,\"inverse\":\"written\",\"ok\":\"assoc_add\",\"position\":2,\"retry\":false}",
-            "{\"changed\":true,\"hops\":2,\"inverse\":\"none\",\"ok\":\"assoc_add\",\"position\":3,\"retry\":false}",
-            "shard 1 position 1 dropped 0, shard 1 position 2 dropped 0, empty",
-            "{\"logs\":[3,2],\"ok\":\"settle\"}",
-            "notes see 3 2",
-            "east/leader/0 marks 3 0",
-            "east/leader/1 marks 0 2",
-            "east/t1/0 marks 3 2",
-            "east/t2/0 marks 3 2",
-            "west/leader/0 marks 3 2",
-            "west/t1/0 marks 3 2",
-            "east/store/0 keeps 3",
-            "east/store/1 keeps 2",
-            "west/store/0 keeps 3",
-            "west/store/1 keeps 2",
-            "keepers 4 faults 0",
-        ],
+        want: &CLOSED,
     };
     compare(&rt, rt.alloc(), &row)
 }

@@ -1,0 +1,2 @@
+pub mod EmptyStores
+pub mod EndingLemmas

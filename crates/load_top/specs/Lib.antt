@@ -1,0 +1,4 @@
+pub mod Empty
+pub mod Ending
+pub mod Lines
+pub mod Statuses

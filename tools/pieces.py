@@ -4,8 +4,8 @@
 usage: pieces.py [--lanes N] [--libraries] [--tests] [--edits] [--programs] [CRATE ..]      in any folder of the checkout
 
 Without a kind it takes all four. With crates it takes these and the libraries below them. What passed is kept by a sum of the text that it rests
-on, in .git/pieces.json, so that a run after a change proves only what stands on it. Each piece's output is in .git/pieces/. `rt ci` proves
-everything anew in one run, and decides.
+on, in .git/pieces.json, so that a run after a change proves only what stands on it. Each piece's output is in .git/pieces/. `rt ci` keeps its own
+account of what passed, and decides.
 """
 import argparse
 import copy

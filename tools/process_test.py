@@ -90,7 +90,7 @@ def rooms() -> Iterator[int]:
 
 class Words(unittest.TestCase):
     def test_help_and_version_are_0(self) -> None:
-        for words in (["--help"], ["-h"], ["run", "--help"], ["run", "-h"], ["gen", "--help"], ["gen", "-h"]):
+        for words in (["--help"], ["-h"], ["run", "--help"], ["run", "-h"], ["gen", "--help"], ["gen", "-h"], ["load", "--help"], ["load", "-h"]):
             done = tao(*words)
             self.assertEqual((done.returncode, done.stderr), (0, b""), words)
             self.assertIn(b"Usage: ", done.stdout, words)
@@ -111,6 +111,14 @@ class Words(unittest.TestCase):
             ["gen", "--seed", "+7", "--calls", "1"],
             ["gen", "--seed", "7", "--calls", "1", "--sql", "tables"],
             ["load"],
+            ["load", "--seed", "7", "--calls", "1"],
+            ["load", "--seed", "7", "--threads", "1"],
+            ["load", "--calls", "1", "--threads", "1"],
+            ["load", "--seed", "7", "--calls", "1", "--threads", "0"],
+            ["load", "--seed", "7", "--calls", "1", "--threads", "17"],
+            ["load", "--seed", "7", "--calls", "1", "--threads", "01"],
+            ["load", "--seed", "7", "--calls", "100001", "--threads", "1"],
+            ["gen", "--seed", "7", "--calls", "1", "--threads", "1"],
             ["serve"],
             ["ran"],
             ["--sql", "tables"],
@@ -158,6 +166,57 @@ class Generated(unittest.TestCase):
             os.close(terminal)
         self.assertEqual((done.returncode, done.stdout), (0, self.LINES))
         self.assertIn(b"1000 of 2000 calls", told)
+        self.assertTrue(told.endswith(b"2000 of 2000 calls\r\n"), told)
+
+
+class Loaded(unittest.TestCase):
+    def load(self, calls: int, threads: int, **how: object) -> Done:
+        return tao("load", "--seed", "7", "--calls", str(calls), "--threads", str(threads), **how)
+
+    def test_a_call_that_reads_writes_an_empty_summary(self) -> None:
+        done = tao("load", "--seed", "0", "--calls", "1", "--threads", "2", input=script_of(CONFIGURATION))
+        self.assertEqual((done.returncode, done.stdout, done.stderr), (0, b'{"edges":0,"logs":[0],"ok":"load","refused":0}\n', b""))
+
+    def test_one_thread_writes_what_a_generated_run_does(self) -> None:
+        done = self.load(2_000, 1, input=script_of(CONFIGURATION))
+        self.assertEqual((done.returncode, done.stderr), (0, b""))
+        self.assertEqual(json.loads(done.stdout)["logs"], json.loads(Generated.LINES.splitlines()[1])["logs"])
+
+    def test_each_number_of_threads_has_its_summary(self) -> None:
+        for threads in (2, 3, 16):
+            done = self.load(1_000, threads, input=script_of(dict(CONFIGURATION, shards=2)))
+            self.assertEqual((done.returncode, done.stderr), (0, b""), threads)
+            said = json.loads(done.stdout)
+            self.assertEqual((list(said), said["ok"], said["refused"], len(said["logs"])), (["edges", "logs", "ok", "refused"], "load", 0, 2), threads)
+
+    def test_a_full_log_is_10(self) -> None:
+        friend = [{"inverse": "friend", "name": "friend"}]
+        done = self.load(2_000, 2, input=script_of(dict(CONFIGURATION, assocs=friend, shards=2, log_max=16)))
+        self.assertEqual((done.returncode, done.stdout, done.stderr), (10, b'{"bad":"load"}\n', b""))
+
+    def test_an_input_without_a_configuration_is_3(self) -> None:
+        for first in (b"", b"{}\n"):
+            done = self.load(1, 1, input=first)
+            self.assertEqual((done.returncode, done.stdout), (3, tao("run", input=first).stdout), first)
+
+    def test_streams_that_fail_are_4_and_5(self) -> None:
+        self.assertEqual(self.load(1, 1, stdin=None, preexec_fn=lambda: os.close(0)).returncode, 4)
+        with open("/dev/full", "wb") as full:
+            self.assertEqual(self.load(1, 1, input=script_of(CONFIGURATION), stdout=full).returncode, 5)
+
+    def test_want_of_memory_is_7(self) -> None:
+        script = script_of(dict(CONFIGURATION, shards=64))
+        self.assertIn(7, {self.load(100, 2, input=script, preexec_fn=with_room(room)).returncode for room in rooms()})
+
+    def test_a_terminal_is_told_how_far_it_is(self) -> None:
+        watcher, terminal = pty.openpty()
+        try:
+            done = self.load(2_000, 2, input=script_of(CONFIGURATION), stderr=terminal)
+            told = os.read(watcher, 4096)
+        finally:
+            os.close(watcher)
+            os.close(terminal)
+        self.assertEqual(done.returncode, 0)
         self.assertTrue(told.endswith(b"2000 of 2000 calls\r\n"), told)
 
 

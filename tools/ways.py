@@ -3,8 +3,8 @@
 
 usage: ways.py [--drop] [COUNT]        the COUNT crates with the most ways (20); --drop takes names that aren't needed out of crates.txt
 
-rt sums up each library's text and that of all below it, once for each way down, twice for a library: some 500 sums a second. So every name in a line
-of a high crate costs the gate time.
+Up to kit 13b rt summed up each library's text and that of all below it, once for each way down. Kit 13f reads each once, and a short line is still the
+easier one to read.
 """
 import functools
 import os

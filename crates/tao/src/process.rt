@@ -1,9 +1,12 @@
 //! What the words of a command line ask for.
+use crate::load::load;
 use crate::run::{NO_MEMORY, in_file, in_memory};
-use command_words::{Words, WordsRefusal, asked_text, read_words};
+use command_words::{ProgramWords, Words, WordsRefusal, asked_text, read_program_words};
 use std::env;
 use std::io::{self, ErrorKind};
 use std::process::ExitCode;
+use std::sync::Wait;
+use std::thread::Threads;
 use tao_base::Text;
 use tao_io::{StdSink, write_all};
 
@@ -39,20 +42,28 @@ fn answer(rt: &HostRuntime, words: &[String]) -> u8 {
     }
 }
 
-/// Does what the words ask for.
-fn obey(rt: &HostRuntime, words: &[String]) -> u8 {
-    match read_words(rt.alloc(), words) {
-        Ok(Words::Run { sql: Some(file) }) => in_file(rt, words, file.as_str()),
-        Ok(Words::Run { sql: None }) | Ok(Words::Gen { .. }) => in_memory(rt, words),
+/// Makes a run.
+fn run(rt: &HostRuntime, words: &[String], asked: &Words) -> u8 {
+    match asked {
+        Words::Run { sql: Some(file) } => in_file(rt, words, file.as_str()),
+        Words::Run { sql: None } | Words::Gen { .. } => in_memory(rt, words),
+    }
+}
+
+/// Does what the words ask for. The threads are those that a load makes.
+fn obey<R: Threads + Wait + Sync>(rt: &HostRuntime, threads: &R, words: &[String]) -> u8 {
+    match read_program_words(rt.alloc(), words) {
+        Ok(ProgramWords::OneThread(asked)) => run(rt, words, &asked),
+        Ok(ProgramWords::Load(asked)) => load(rt, threads, asked),
         Err(WordsRefusal::Usage) => answer(rt, words),
         Err(WordsRefusal::OutOfMemory) => NO_MEMORY,
     }
 }
 
 /// Does what the words of the process ask for, and answers its status.
-pub fn start(rt: &HostRuntime) -> ExitCode {
+pub fn start<R: Threads + Wait + Sync>(rt: &HostRuntime, threads: &R) -> ExitCode {
     let code = match words(rt) {
-        Ok(words) => obey(rt, &words),
+        Ok(words) => obey(rt, threads, &words),
         Err(error) if error.kind() == ErrorKind::OutOfMemory => NO_MEMORY,
         Err(_) => FAULTY_WORDS,
     };

@@ -1,0 +1,3 @@
+pub mod Herds
+pub mod Leads
+pub mod Names

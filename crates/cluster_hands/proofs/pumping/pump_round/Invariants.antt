@@ -1,0 +1,6 @@
+use Rattle.shared_tiers.specs.cluster_pumps.Hands.{IsHandOf}
+use Rattle.cluster_hands.specs.Hands.{EachHand}
+use Rattle.cluster_hands.proofs.pumping.pump_round.Given as goal
+
+abbrev pub invariant-loop-place : goal.invariant-loop-place
+invariant-loop-place g l = EachHand (IsHandOf g.J.Sharing.making l.cluster) l.hands

@@ -196,7 +196,8 @@ all u (t ∷ ts) is = by (all u ts) (written_by t) refl
     by before None none = before (sym (passed u t ts none) ∙ is)
     by before (Some v) of = at_later before v of (left_at u ts) refl (sym (left_at-cons u t ts) ∙ is)
 
-in_all : (u : EdgeUpdate) (us : List EdgeUpdate) → IsIn u (last_records us) → IsIn u us
+-- a last record is a record
+pub in_all : (u : EdgeUpdate) (us : List EdgeUpdate) → IsIn u (last_records us) → IsIn u us
 in_all u [] here = absurd here
 in_all u (v ∷ later) here = by (in_all u later) (list_any (same_edge v) later) here
   where

@@ -1,6 +1,6 @@
 mod AuditLemmas
 mod CheckedWrites
+mod KeptLemmas
 pub mod LastRecords
 mod Meeting
 pub mod PlaceLemmas
-mod SameEdges

@@ -1,25 +1,43 @@
 -- Records that are met, from the last to the first.
-use Rattle.std.proofs.Common.{◌≡◌, ◌∙◌, ℕ, ◌+◌, ◌<◌, ◌≤◌, Bool, true, false, List, [], ◌∷◌, ◌++◌, append_assoc, append-nil, ap, subst, sym, refl, arith, get_or, length, take, ◌-◌}
+use Rattle.std.proofs.Common.{◌≡◌, ◌∙◌, ℕ, ◌+◌, ◌<◌, ◌≤◌, ◌==◌, Bool, true, false, List, [], ◌∷◌, ◌++◌, append_assoc, append-nil, ap, subst, sym, refl, arith, get_or, length, take, ◌-◌}
+use Rattle.std.proofs.lemmas.Bool.Decides.{nat_tests}
 use Rattle.std.proofs.lemmas.List.{take_all, take_more}
 use Rattle.std.proofs.lemmas.List.Sums.{sum_by-cons}
-use Rattle.std.specs.BTreeMap.{is_at}
-use Rattle.std.specs.BTreeSet.{contains}
+use Rattle.std.specs.HashSet.{contains}
 use Rattle.std.specs.List.{cons_option, list_any}
 use Rattle.std.specs.Prelude.{◌&&◌, ◌||◌, cond, not, count_by, filter_map, if◌then◌else◌, Option, Some, None, option_map}
 use Rattle.graph_model.specs.Soundness.{EdgeUpdate, update_at}
 use Rattle.tao_base.specs.declared.entry.Touch.{Touch}
 use Rattle.write_model.specs.Writes.{same_edge}
-use Rattle.load_audit.specs.Counting.{HasMet, HasMetNoneFrom, MeetsMore}
+use Rattle.load_audit.specs.Counting.{HasMet, MeetsMore}
 use Rattle.load_audit.specs.LiveEdges.{is_live, last_records, live_among}
-use Rattle.load_audit.specs.Logged.{logged_cmp, logged_edge, record_at}
+use Rattle.load_audit.specs.Logged.{logged_edge, record_at, same_logged}
 use Rattle.load_audit.specs.declared.live.LiveCount.{LiveCount}
 use Rattle.load_audit.specs.declared.logged.LoggedEdge.{LoggedEdge}
-use Rattle.load_audit.proofs.SameEdges.{other_log, same_in_order}
+
+-- ---- edges
+
+eqb_swap : (x y : ℕ) → (x == y) ≡ (y == x)
+eqb_swap x y = grind (arith, nat_tests)
+
+and_assoc : (a b c : Bool) → (a && (b && c)) ≡ ((a && b) && c)
+and_assoc true b c = refl
+and_assoc false b c = refl
+
+-- edges of records are one where the records are of one edge
+same_in_log : (u v : EdgeUpdate) → same_logged (logged_edge u) (logged_edge v) ≡ same_edge v u
+same_in_log u v =
+    and_assoc (u.0 == v.0) (u.1.0 == v.1.0) (u.2 == v.2)
+    ∙ ap (λ b. b && u.1.0 == v.1.0 && u.2 == v.2) (eqb_swap u.0 v.0)
+    ∙ ap (λ b. v.0 == u.0 && b && u.2 == v.2) (eqb_swap u.1.0 v.1.0)
+    ∙ ap (λ b. v.0 == u.0 && v.1.0 == u.1.0 && b) (eqb_swap u.2 v.2)
+
+-- ---- records
 
 -- an edge was taken among those that were met: whether that was the first time, and how many live ones there are then
 pub record Meets (edge : LoggedEdge) (is_live is_first : Bool) (old new : LiveCount) : Type 0 where
-  pub first : is_first ≡ not (contains logged_cmp old.met edge)
-  pub after : (other : LoggedEdge) → contains logged_cmp new.met other ≡ (if is_at (logged_cmp edge) other then true else contains logged_cmp old.met other)
+  pub first : is_first ≡ not (contains same_logged old.met edge)
+  pub after : (other : LoggedEdge) → contains same_logged new.met other ≡ (if same_logged edge other then true else contains same_logged old.met other)
   pub live : new.live ≡ old.live + (if is_first && is_live then 1 else 0)
 
 -- one more record comes before the last ones: it is itself a last one, unless there is a later one of its edge
@@ -33,75 +51,61 @@ or_is : (a b : Bool) → (if a then true else b) ≡ (a || b)
 or_is true b = refl
 or_is false b = refl
 
-module _ (shard : ℕ) (u : EdgeUpdate) (is_first : Bool) (old new : LiveCount) (m : Meets (logged_edge shard u) (is_live u.3) is_first old new)
-    (before : ℕ) (later : List EdgeUpdate) (h : HasMet shard before later old) where
-  counted : new.live ≡ before + live_among (u ∷ later)
+module _ (u : EdgeUpdate) (is_first : Bool) (old new : LiveCount) (m : Meets (logged_edge u) (is_live u.3) is_first old new) (later : List EdgeUpdate)
+    (h : HasMet later old) where
+  counted : new.live ≡ live_among (u ∷ later)
   counted =
       let one = adds_one (list_any (same_edge u) later) u (last_records later) is_first (m.first ∙ ap not (h.met_are u)) in
       omega (arith, one, m.live, h.live_is)
 
-  met : (v : EdgeUpdate) → contains logged_cmp new.met (logged_edge shard v) ≡ list_any (same_edge v) (u ∷ later)
+  met : (v : EdgeUpdate) → contains same_logged new.met (logged_edge v) ≡ list_any (same_edge v) (u ∷ later)
   met v =
-      m.after (logged_edge shard v)
-      ∙ ap (λ b. if b then true else contains logged_cmp old.met (logged_edge shard v)) (same_in_order shard u v)
+      m.after (logged_edge v)
+      ∙ ap (λ b. if b then true else contains same_logged old.met (logged_edge v)) (same_in_log u v)
       ∙ ap (λ b. if same_edge v u then true else b) (h.met_are v)
       ∙ or_is (same_edge v u) (list_any (same_edge v) later)
 
-  none_behind : HasMetNoneFrom (shard + 1) new
-  none_behind edge behind =
-      m.after edge ∙ ap (λ b. if b then true else contains logged_cmp old.met edge) (other_log shard u edge behind) ∙ h.none_behind edge behind
-
-  met_one : HasMet shard before (u ∷ later) new
-  met_one = record { live_is = counted; met_are = met; none_behind = none_behind }
+  met_one : HasMet (u ∷ later) new
+  met_one = record { live_is = counted; met_are = met }
 
 same_some : {X : Type 0} (x y : X) → Some x ≡ Some y → x ≡ y
 same_some x y is = cc
 
 -- a touch that writes a record, and one that writes none
-pub touch_met : (shard : ℕ) (touch : Touch) (edge : LoggedEdge) (live is_first : Bool) (old new : LiveCount) → record_at shard touch ≡ Some (edge, live)
-    → Meets edge live is_first old new → MeetsMore shard (filter_map (λ (t : Touch). update_at t.key t.change) (touch ∷ [])) old new
-touch_met shard touch edge live is_first old new is m = by (update_at touch.key touch.change) is
+pub touch_met : (touch : Touch) (edge : LoggedEdge) (live is_first : Bool) (old new : LiveCount) → record_at touch ≡ Some (edge, live)
+    → Meets edge live is_first old new → MeetsMore (filter_map (λ (t : Touch). update_at t.key t.change) (touch ∷ [])) old new
+touch_met touch edge live is_first old new is m = by (update_at touch.key touch.change) is
   where
-    by : (found : Option EdgeUpdate) → option_map (λ (u : EdgeUpdate). let met : LoggedEdge × Bool = (logged_edge shard u, is_live u.3) in met) found ≡ Some (edge, live)
-        → MeetsMore shard (cons_option found []) old new
+    by : (found : Option EdgeUpdate) → option_map (λ (u : EdgeUpdate). let met : LoggedEdge × Bool = (logged_edge u, is_live u.3) in met) found ≡ Some (edge, live)
+        → MeetsMore (cons_option found []) old new
     by None none = absurd (cc)
-    by (Some u) same = λ before later h.
-        let first : LoggedEdge × Bool = (logged_edge shard u, is_live u.3) in
+    by (Some u) same = λ later h.
+        let first : LoggedEdge × Bool = (logged_edge u, is_live u.3) in
         let second : LoggedEdge × Bool = (edge, live) in
         let pair : first ≡ second = same_some first second same in
-        let same_edge_is : logged_edge shard u ≡ edge = ap (λ (p : LoggedEdge × Bool). p.0) pair in
+        let same_edge_is : logged_edge u ≡ edge = ap (λ (p : LoggedEdge × Bool). p.0) pair in
         let same_live : is_live u.3 ≡ live = ap (λ (p : LoggedEdge × Bool). p.1) pair in
-        met_one shard u is_first old new
-        (subst (λ e. Meets e (is_live u.3) is_first old new) (sym same_edge_is) (subst (λ b. Meets edge b is_first old new) (sym same_live) m)) before later h
+        met_one u is_first old new
+        (subst (λ e. Meets e (is_live u.3) is_first old new) (sym same_edge_is) (subst (λ b. Meets edge b is_first old new) (sym same_live) m)) later h
 
-pub none_met : (shard : ℕ) (touch : Touch) (count : LiveCount) → record_at shard touch ≡ None
-    → MeetsMore shard (filter_map (λ (t : Touch). update_at t.key t.change) (touch ∷ [])) count count
-none_met shard touch count is = by (update_at touch.key touch.change) is
+pub none_met : (touch : Touch) (count : LiveCount) → record_at touch ≡ None
+    → MeetsMore (filter_map (λ (t : Touch). update_at t.key t.change) (touch ∷ [])) count count
+none_met touch count is = by (update_at touch.key touch.change) is
   where
-    by : (found : Option EdgeUpdate) → option_map (λ (u : EdgeUpdate). let met : LoggedEdge × Bool = (logged_edge shard u, is_live u.3) in met) found ≡ None
-        → MeetsMore shard (cons_option found []) count count
-    by None none = λ before later h. h
+    by : (found : Option EdgeUpdate) → option_map (λ (u : EdgeUpdate). let met : LoggedEdge × Bool = (logged_edge u, is_live u.3) in met) found ≡ None
+        → MeetsMore (cons_option found []) count count
+    by None none = λ later h. h
     by (Some u) same = absurd (cc)
 
 -- records that are met before those that were
-pub meets_then : (shard : ℕ) (earlier later : List EdgeUpdate) (old mid new : LiveCount) → MeetsMore shard later old mid → MeetsMore shard earlier mid new
-    → MeetsMore shard (earlier ++ later) old new
-meets_then shard earlier later old mid new first second before rest h =
-    subst (λ records. HasMet shard before records new) (sym (append_assoc earlier later rest)) (second before (later ++ rest) (first before rest h))
+pub meets_then : (earlier later : List EdgeUpdate) (old mid new : LiveCount) → MeetsMore later old mid → MeetsMore earlier mid new
+    → MeetsMore (earlier ++ later) old new
+meets_then earlier later old mid new first second rest h =
+    subst (λ records. HasMet records new) (sym (append_assoc earlier later rest)) (second (later ++ rest) (first rest h))
 
--- nothing of a log was met yet
-pub met_nothing : (shard : ℕ) (count : LiveCount) → HasMetNoneFrom shard count → HasMet shard count.live [] count
-met_nothing shard count none = record {
-  live_is = omega arith;
-  met_are = λ u. none (logged_edge shard u) (omega arith);
-  none_behind = λ edge behind. none edge (omega (arith, behind));
-}
-
--- all of a log was met
-pub met_all : (shard : ℕ) (records : List EdgeUpdate) (old new : LiveCount) → HasMetNoneFrom shard old → MeetsMore shard records old new
-    → HasMet shard old.live records new
-met_all shard records old new none meets =
-    subst (λ (rs : List EdgeUpdate). HasMet shard old.live rs new) (append-nil records) (meets old.live [] (met_nothing shard old none))
+-- all records were met
+pub met_all : (records : List EdgeUpdate) (old new : LiveCount) → HasMet [] old → MeetsMore records old new → HasMet records new
+met_all records old new none meets = subst (λ (rs : List EdgeUpdate). HasMet rs new) (append-nil records) (meets [] none)
 
 -- a record comes before those of later touches
 pub one_before : (touch : Touch) (later : List Touch) → filter_map (λ (t : Touch). update_at t.key t.change) (touch ∷ [])
@@ -116,33 +120,32 @@ one_before touch later = by (update_at touch.key touch.change)
 -- ---- the records of a list, from its end
 
 -- some last elements of a list were gone past, and the records that they write were met
-pub record MetFrom {X : Type 0} (shard : ℕ) (written : List X → List EdgeUpdate) (all left : List X) (start now : LiveCount) : Type 0 where
+pub record MetFrom {X : Type 0} (written : List X → List EdgeUpdate) (all left : List X) (start now : LiveCount) : Type 0 where
   pub rest : List X
   pub split : all ≡ left ++ rest
-  pub met : MeetsMore shard (written rest) start now
+  pub met : MeetsMore (written rest) start now
 
-pub none_yet : {X : Type 0} (shard : ℕ) (written : List X → List EdgeUpdate) (all : List X) (count : LiveCount) → written [] ≡ []
-    → MetFrom shard written all all count count
-none_yet shard written all count none = record {
+pub none_yet : {X : Type 0} (written : List X → List EdgeUpdate) (all : List X) (count : LiveCount) → written [] ≡ []
+    → MetFrom written all all count count
+none_yet written all count none = record {
   rest = [];
   split = sym (append-nil all);
-  met = λ before later h. subst (λ (us : List EdgeUpdate). HasMet shard before (us ++ later) count) (sym none) h;
+  met = λ later h. subst (λ (us : List EdgeUpdate). HasMet (us ++ later) count) (sym none) h;
 }
 
-pub one_more : {X : Type 0} (shard : ℕ) (one : X → List EdgeUpdate) (written : List X → List EdgeUpdate)
-    → ((x : X) (xs : List X) → one x ++ written xs ≡ written (x ∷ xs)) → (all left before : List X) (x : X) (start mid new : LiveCount)
-    → left ≡ before ++ x ∷ [] → MetFrom shard written all left start mid → MeetsMore shard (one x) mid new → MetFrom shard written all before start new
-one_more shard one written step all left before x start mid new is so_far meets = record {
+pub one_more : {X : Type 0} (one : X → List EdgeUpdate) (written : List X → List EdgeUpdate) → ((x : X) (xs : List X) → one x ++ written xs ≡ written (x ∷ xs))
+    → (all left before : List X) (x : X) (start mid new : LiveCount) → left ≡ before ++ x ∷ [] → MetFrom written all left start mid → MeetsMore (one x) mid new
+    → MetFrom written all before start new
+one_more one written step all left before x start mid new is so_far meets = record {
   rest = x ∷ so_far.rest;
   split = so_far.split ∙ ap (λ xs. xs ++ so_far.rest) is ∙ append_assoc before (x ∷ []) so_far.rest;
-  met = subst (λ us. MeetsMore shard us start new) (step x so_far.rest)
-      (meets_then shard (one x) (written so_far.rest) start mid new so_far.met meets);
+  met = subst (λ us. MeetsMore us start new) (step x so_far.rest) (meets_then (one x) (written so_far.rest) start mid new so_far.met meets);
 }
 
-pub all_of : {X : Type 0} (shard : ℕ) (written : List X → List EdgeUpdate) (all left : List X) (start now : LiveCount) → left ≡ []
-    → MetFrom shard written all left start now → MeetsMore shard (written all) start now
-all_of shard written all left start now none so_far =
-    subst (λ xs. MeetsMore shard (written xs) start now) (sym (so_far.split ∙ ap (λ xs. xs ++ so_far.rest) none)) so_far.met
+pub all_of : {X : Type 0} (written : List X → List EdgeUpdate) (all left : List X) (start now : LiveCount) → left ≡ []
+    → MetFrom written all left start now → MeetsMore (written all) start now
+all_of written all left start now none so_far =
+    subst (λ xs. MeetsMore (written xs) start now) (sym (so_far.split ∙ ap (λ xs. xs ++ so_far.rest) none)) so_far.met
 
 -- ---- a list's last element
 

@@ -1,9 +1,12 @@
 -- The writes of a workload stand at the places of their numbers.
 use Rattle.std.proofs.Common.{◌≡◌, ◌∙◌, ℕ, zero, suc, ◌+◌, ◌-◌, ◌<◌, ◌≤◌, Bool, true, false, List, [], ◌∷◌, ◌++◌, add-one, append_assoc, append-nil, get_or, length, map, ap, sym, subst, refl, arith, inl, inr}
 use Rattle.std.specs.List.{AllWithin, cons_option}
+use denote.Ref.{Bor}
 use Rattle.std.proofs.lemmas.Bool.{cases_Bool}
+use Rattle.std.proofs.lemmas.Bool.Decides.{nat_tests}
+use Rattle.std.proofs.lemmas.Option.{slice_get-map, slice_get_past, slice_get_read}
 use Rattle.std.specs.Bool.{MatchBool}
-use Rattle.std.specs.Prelude.{◌↔◌, Contains, IsTrue, ◌==◌, nat_le, option_and_then, cond, filter, not, Option, Some, None, Result, Ok, Err, slice_get}
+use Rattle.std.specs.Prelude.{◌↔◌, Contains, IsTrue, ◌==◌, nat_le, nat_lt, option_and_then, option_map, cond, filter, not, IfOk, Option, Some, None, Result, Ok, Err, slice_get}
 use Rattle.std.specs.Result.{result_ok}
 use Rattle.graph_model.proofs.Members.{IsIn, contains_from_in, in_from_contains}
 use Rattle.load_gen.proofs.Counted.{is_drawn_call}
@@ -31,7 +34,7 @@ use Rattle.tao_base.specs.declared.entry.Origin.TheVariants.{Client, Merge}
 use Rattle.write_model.specs.Writes.{FitsWrite}
 use Rattle.load_audit.specs.Listed.{IsKnown, IsOfOne, IsStrange, IsWorkload, origin_of, write_in, writes_of}
 use Rattle.load_audit.specs.Numbered.{IsFoundBy, IsStrangeAt}
-use Rattle.load_audit.specs.Places.{AreAtPlaces, call_at, writes_among}
+use Rattle.load_audit.specs.Places.{AreAtPlaces, call_at, placed_calls, writes_among}
 
 -- ---- the calls of a workload
 
@@ -167,6 +170,42 @@ at_call calls place w is = by (slice_get calls place) is
     by (Some None) none = absurd (cc)
     by (Some (Some other)) same = let one : other ≡ w = cc in ap (λ (x : CheckedWrite). Some (Some x)) one
 
+-- what a look-up at a place found
+pub looked_up : {X : Type 0} (xs : List X) (place : ℕ) (x : X) → true ≡ nat_lt place (length xs) → x ≡ get_or xs place x → slice_get xs place ≡ Some x
+looked_up xs place x less is = slice_get_read xs (length xs) place x refl (within place (length xs) less) is
+  where
+    within : (i n : ℕ) → true ≡ nat_lt i n → i < n
+    within i n test = grind (arith, nat_tests)
+
+pub looked_past : {X : Type 0} (xs : List X) (place : ℕ) → false ≡ nat_lt place (length xs) → slice_get xs place ≡ None
+looked_past xs place past = slice_get_past xs place (beyond place (length xs) past)
+  where
+    beyond : (i n : ℕ) → false ≡ nat_lt i n → n ≤ i
+    beyond i n test = grind (arith, nat_tests)
+
+placed_at : (s : Settings) (calls : List (Bor Request)) (place : ℕ)
+    → call_at (placed_calls s calls) place
+    ≡ option_and_then (λ (r : Bor Request). write_in s r.now) (slice_get calls place)
+placed_at s calls place =
+    ap (option_and_then (λ (call : Option CheckedWrite). call))
+    (slice_get-map (write_in s) (map (λ (r : Bor Request). r.now) calls) place
+    ∙ ap (option_map (write_in s)) (slice_get-map (λ (r : Bor Request). r.now) calls place))
+    ∙ by (slice_get calls place)
+  where
+    by : (found : Option (Bor Request))
+        → option_and_then (λ (call : Option CheckedWrite). call) (option_map (write_in s) (option_map (λ (r : Bor Request). r.now) found))
+        ≡ option_and_then (λ (r : Bor Request). write_in s r.now) found
+    by None = refl
+    by (Some r) = refl
+
+-- the write that the call at a place is, and none where there is no call
+pub call_placed : (s : Settings) (calls : List (Bor Request)) (place : ℕ) (r : Bor Request) → slice_get calls place ≡ Some r
+    → call_at (placed_calls s calls) place ≡ write_in s r.now
+call_placed s calls place r is = placed_at s calls place ∙ ap (option_and_then (λ (r : Bor Request). write_in s r.now)) is
+
+pub none_placed : (s : Settings) (calls : List (Bor Request)) (place : ℕ) → slice_get calls place ≡ None → call_at (placed_calls s calls) place ≡ None
+none_placed s calls place is = placed_at s calls place ∙ ap (option_and_then (λ (r : Bor Request). write_in s r.now)) is
+
 get_of : {X : Type 0} (xs : List X) (place : ℕ) (x : X) → slice_get xs place ≡ Some x → get_or xs place x ≡ x
 get_of [] place x is = absurd (cc)
 get_of (y ∷ ys) zero x is = cc
@@ -200,6 +239,11 @@ module _ (calls : List (Option CheckedWrite)) (at : AreAtPlaces calls) where
             contains_from_in (writes_among calls) w (among calls (seq - 1) w stands),
             λ other has number_is. (let some_other = there other has number_is in cc),
           )
+
+  pub found_ok : {E : Type 0} (seq : ℕ) (found : Result (Option CheckedWrite) E) → 1 ≤ seq → IfOk found (λ write. write ≡ call_at calls (seq - 1))
+      → IfOk found (IsFoundBy seq (writes_among calls))
+  found_ok seq (Ok write) some is = found_by seq write some is
+  found_ok seq (Err e) some is = tt
 
   -- numbers count from 1
   pub none_by : (seq : ℕ) → seq ≡ 0 → IsFoundBy seq (writes_among calls) None

@@ -1,6 +1,7 @@
 pub mod Auditing
 pub mod Audits
 pub mod Counting
+pub mod Kept
 pub mod Listed
 pub mod LiveEdges
 pub mod LiveLaws

@@ -1,7 +1,5 @@
--- The edges of logs, in an order, and the records that touches write of them.
-use Rattle.std.specs.Prelude.{ℕ, Bool, true, false, Option, Some, None, option_map}
-use Rattle.std.specs.Ordering.{nat_cmp, ordering_then}
-use Rattle.std.specs.declared.cmp.Ordering.{Ordering}
+-- The edges of a log, and the records that touches write of them.
+use Rattle.std.specs.Prelude.{◌==◌, ◌&&◌, Bool, true, false, Option, Some, None, option_map}
 use Rattle.tao_base.specs.declared.entry.Change.{Change}
 use Rattle.tao_base.specs.declared.entry.Change.TheVariants.{PutObject, DropObject, SetEdge, CutEdge}
 use Rattle.tao_base.specs.declared.entry.Touch.{Touch}
@@ -10,14 +8,13 @@ use Rattle.graph_model.specs.Soundness.{EdgeUpdate, update_at}
 use Rattle.load_audit.specs.LiveEdges.{is_live}
 use Rattle.load_audit.specs.declared.logged.LoggedEdge.{LoggedEdge}
 
--- the edge that a record of a shard's log is of
-abbrev pub logged_edge : ℕ → EdgeUpdate → LoggedEdge
-logged_edge shard u = record { shard = shard; id1 = u.0; atype = u.1; id2 = u.2 }
+-- the edge that a record is of
+abbrev pub logged_edge : EdgeUpdate → LoggedEdge
+logged_edge u = record { id1 = u.0; atype = u.1; id2 = u.2 }
 
--- edges in the order of shards, then of their first ids, types and second ids
-abbrev pub logged_cmp : LoggedEdge → LoggedEdge → Ordering
-logged_cmp x y = ordering_then (nat_cmp x.shard y.shard)
-    (ordering_then (nat_cmp x.id1 y.id1) (ordering_then (nat_cmp x.atype.0 y.atype.0) (nat_cmp x.id2 y.id2)))
+-- whether two edges of a log are one
+abbrev pub same_logged : LoggedEdge → LoggedEdge → Bool
+same_logged x y = x.id1 == y.id1 && (x.atype.0 == y.atype.0 && x.id2 == y.id2)
 
 -- where the edge goes that a change of a list writes, and whether it is live then
 abbrev pub end_of : Change → Option (Id × Bool)
@@ -27,5 +24,5 @@ end_of (PutObject object) = None
 end_of DropObject = None
 
 -- the edge of the record that a touch writes, if it writes one, and whether that is live
-abbrev pub record_at : ℕ → Touch → Option (LoggedEdge × Bool)
-record_at shard touch = option_map (λ u. (logged_edge shard u, is_live u.3)) (update_at touch.key touch.change)
+abbrev pub record_at : Touch → Option (LoggedEdge × Bool)
+record_at touch = option_map (λ u. (logged_edge u, is_live u.3)) (update_at touch.key touch.change)

@@ -1,9 +1,17 @@
 -- The writes of a workload as they are kept, each at the place of its number.
-use Rattle.std.specs.Prelude.{◌≡◌, ℕ, ◌+◌, List, Option, Some, None, filter_map, option_and_then, slice_get}
+use denote.Ref.{Bor}
+use Rattle.std.specs.Prelude.{◌≡◌, ℕ, ◌+◌, List, Option, Some, None, filter_map, map, option_and_then, slice_get}
 use Rattle.request_check.specs.declared.checked.Checked.{Checked}
 use Rattle.request_check.specs.declared.checked.Checked.TheVariants.{Open, Call, Plan, Cache, Store, Health, Link}
 use Rattle.request_check.specs.declared.checked.CheckedCall.TheVariants.{Read, Write}
 use Rattle.request_check.specs.declared.checked.CheckedWrite.{CheckedWrite}
+use Rattle.requests.specs.declared.request.Request.{Request}
+use Rattle.topology.specs.Config.{Settings}
+use Rattle.load_audit.specs.Listed.{write_in}
+
+-- of each call the write that it is, if it is one
+abbrev pub placed_calls : Settings → List (Bor Request) → List (Option CheckedWrite)
+placed_calls s calls = map (write_in s) (map (λ (call : Bor Request). call.now) calls)
 
 -- each write stands at the place of its number, which counts from 1
 abbrev pub AreAtPlaces : List (Option CheckedWrite) → Type 0

@@ -1,25 +1,26 @@
 //! The audit of a load.
-ghost use Rattle.std.specs.Prelude.{◌+◌, IfErr, IfOk, OnOk};
-ghost use Rattle.core_model.specs.Stores.{master_log};
+ghost use Rattle.std.specs.Prelude.{◌≡◌, ◌<◌, Err, IfErr, IfOk, IsErrOf, List, length};
+ghost use Rattle.std.specs.Vec.{vec_len};
 ghost use Rattle.graph_model.specs.Told.{WhereTold};
-ghost use Rattle.load_audit.specs.Auditing.{AuditsLog, AuditsLogs};
+ghost use Rattle.keepers.specs.Shown.{told_in};
+ghost use Rattle.load_audit.specs.Auditing.{AuditsLogs};
 ghost use Rattle.load_audit.specs.Audits.{IsAuditOf, RefusesAudit};
-ghost use Rattle.load_audit.specs.Counting.{HasMetNoneFrom};
+ghost use Rattle.load_audit.specs.Kept.{AreAudited, AuditsEach, HasFault, IsRoomFor, KeepersStay, OneFailed, keepers_in};
 ghost use Rattle.load_audit.specs.Listed.{IsWorkload};
 ghost use Rattle.load_audit.specs.declared.audits.AuditRefusal.TheVariants.{Failed as AuditFailed};
-ghost use Rattle.tao_keeper.specs.KeeperState.{CallsKeeper, KeepsTables};
-ghost use Rattle.tao_keeper.specs.declared.keeper.KeepFail.TheVariants.{Failed as KeeperFailed};
+ghost use Rattle.request_check.specs.declared.checked.CheckedWrite.{CheckedWrite};
+ghost use Rattle.tao_keeper.specs.declared.keeper.KeepFail.TheVariants.{Failed as KeeperFailed, OutOfMemory as NoMemory};
 
+use crate::kept::{KeptLog, audit_all, found_of, with_logs, without_logs};
 use crate::tally::Tally;
 use crate::writes::ListedWrites;
-use core_model::master_of;
 use replies::Lengths;
 use requests::Request;
-use shard_tables::whole_log;
 use std::alloc::Global;
 use std::error::Error;
 use std::fmt;
-use tao_base::{OutOfMemory, StoreName};
+use std::thread::Threads;
+use tao_base::OutOfMemory;
 use tao_keeper::{KeepFail, Keeper};
 use topology::Config;
 
@@ -35,7 +36,7 @@ pub struct LoadAudit {
 /// Why an audit doesn't pass.
 #[derive(Clone, Copy, Debug, PartialEq, Eq)]
 pub enum AuditRefusal {
-    /// The keepers failed, and counted that, or there was no memory.
+    /// A keeper failed, and counted that, or there was no memory.
     Failed(KeepFail),
     /// The entry at a position of a shard's log is a client's, and of none of the workload's writes. It is the first such entry.
     Stranger { shard: u16, position: u64 },
@@ -80,74 +81,135 @@ impl From<OutOfMemory> for AuditRefusal {
     }
 }
 
-/// Audits the log of a shard, where those of the shards before it were audited.
-fn audit_shard<K: Keeper>(
-    alloc: Global,
-    config: &Config,
-    keepers: &mut K,
-    writes: &ListedWrites,
-    shard: u16,
-    tally: &mut Tally,
-) -> Result<(), AuditRefusal>
-    requires { HasMetNoneFrom shard tally.old.edges }
-    ensures audits { WhereTold K.TELLS (AuditsLog writes.now shard (master_log config.now (K.state keepers.old).told shard) result tally.old tally.new) }
-    ensures met { OnOk result (HasMetNoneFrom (shard + 1) tally.new.edges) }
-    ensures stays { KeepsTables K.TELLS (K.state keepers.old) (K.state keepers.new) }
-    ensures calls { CallsKeeper (AuditFailed KeeperFailed) (K.state keepers.old) (K.state keepers.new) result }
+/// What an audit found, and the keepers, in their order.
+#[derive(Drop)]
+pub struct Audited<M> {
+    pub found: Result<LoadAudit, AuditRefusal>,
+    pub keepers: Vec<M>,
+}
+
+/// An audit that wants memory.
+fn short_of_memory<M>(keepers: Vec<M>) -> Audited<M>
+    ensures found { result.found ≡ Err (AuditFailed NoMemory) }
+    ensures keepers { result.keepers ≡ keepers }
 {
-    let at = StoreName {
-        region: master_of(config, shard),
-        shard,
-    };
-    let log = whole_log(alloc, keepers, at)?;
-    match writes.first_strange(&log) {
-        Some(position) => Err(AuditRefusal::Stranger { shard, position }),
-        None => {
-            tally.add(shard, &log)?;
-            Ok(())
-        }
+    Audited {
+        found: Err(AuditRefusal::Failed(KeepFail::OutOfMemory)),
+        keepers,
     }
 }
 
-/// Audits the logs of all shards, one after another.
-fn audit_shards<K: Keeper>(
+/// Adds up what was found of the logs of all shards, or gives the first reason why one doesn't pass.
+fn sum_up<M: Keeper>(
     alloc: Global,
     config: &Config,
-    keepers: &mut K,
-    writes: &ListedWrites,
-) -> Result<Tally, AuditRefusal>
-    ensures audits { WhereTold K.TELLS (AuditsLogs config.now (K.state keepers.old).told writes.now result) }
-    ensures stays { KeepsTables K.TELLS (K.state keepers.old) (K.state keepers.new) }
-    ensures calls { CallsKeeper (AuditFailed KeeperFailed) (K.state keepers.old) (K.state keepers.new) result }
+    all: &[KeptLog<M>],
+) -> Result<LoadAudit, AuditRefusal>
+    ensures audits { (writes : List CheckedWrite) → AreAudited M.TELLS M.state writes all.now
+        → WhereTold M.TELLS (AuditsLogs config.now (told_in M.state config.now.shards (keepers_in all.now)) writes result) }
+    ensures fault { IsErrOf result (AuditFailed KeeperFailed) → HasFault all.now }
 {
     let mut tally = Tally::new(alloc);
     for shard in 0..config.shards {
-        audit_shard(alloc, config, keepers, writes, shard, &mut tally)?;
+        let found = found_of(config, all, shard)?;
+        tally.add(found)?;
     }
-    Ok(tally)
+    Ok(tally.into_audit())
+}
+
+/// Room for keepers with their logs, and for the keepers alone.
+#[derive(Drop)]
+struct AuditRoom<M> {
+    logs: Vec<KeptLog<M>>,
+    keepers: Vec<M>,
+}
+
+/// Room for so many of each.
+fn make_room<M: Drop>(alloc: Global, many: usize) -> Result<AuditRoom<M>, OutOfMemory>
+    ensures logs { IfOk result (λ room. IsRoomFor many room.logs) }
+    ensures keepers { IfOk result (λ room. IsRoomFor many room.keepers) }
+{
+    Ok(AuditRoom {
+        logs: Vec::with_capacity(alloc, many)?,
+        keepers: Vec::with_capacity(alloc, many)?,
+    })
+}
+
+/// Audits the log of each keeper, on at most so many threads.
+fn audit_each<M: Keeper + Send, R: Threads + Sync>(
+    rt: &R,
+    alloc: Global,
+    writes: &ListedWrites<'_>,
+    threads: usize,
+    all: Vec<KeptLog<M>>,
+) -> Vec<KeptLog<M>>
+    requires { 0 < threads }
+    ensures many { length result.items ≡ length all.items }
+    ensures each { AuditsEach M.TELLS M.state writes.now all.items result.items }
+{
+    let mut all = all;
+    audit_all(rt, alloc, writes, threads, all.as_mut_slice());
+    all
+}
+
+/// Audits the logs of all shards against the writes of a workload, in room that was made for it.
+fn audit_in<M: Keeper + Drop + Send, R: Threads + Sync>(
+    rt: &R,
+    alloc: Global,
+    config: &Config,
+    writes: &ListedWrites<'_>,
+    threads: usize,
+    keepers: Vec<M>,
+    room: AuditRoom<M>,
+) -> Audited<M>
+    requires threads { 0 < threads }
+    requires logs { IsRoomFor (vec_len keepers) room.logs }
+    requires keepers { IsRoomFor (vec_len keepers) room.keepers }
+    ensures audits { WhereTold M.TELLS (AuditsLogs config.now (told_in M.state config.now.shards result.keepers.items) writes.now result.found) }
+    ensures stay { KeepersStay M.TELLS M.state keepers.items result.keepers.items }
+    ensures fault { IsErrOf result.found (AuditFailed KeeperFailed) → OneFailed M.state keepers.items result.keepers.items }
+{
+    let AuditRoom {
+        logs,
+        keepers: back,
+    } = room;
+    let all = audit_each(rt, alloc, writes, threads, with_logs(config, keepers, logs));
+    let found = sum_up(alloc, config, all.as_slice());
+    Audited {
+        found,
+        keepers: without_logs(all, back),
+    }
 }
 
 /// Reads the log of each shard whole, and tells how long they are and how many edges they leave live, where each client's entry has the origin of one
-/// of the requests' writes and fits it; else it names the first that doesn't. The requests are those of a workload.
+/// of the requests' writes and fits it; else it names the first that doesn't. The requests are those of a workload, and the keepers one for each store, in
+/// order of region, then of shard: one that is missing is want of memory.
 ///
-/// `Failed(Failed)` comes only where the keepers' count of faults rose, and `Failed(OutOfMemory)` where there was no memory. No table changes. Costs
-/// two calls of the keepers for each shard and one for each entry, memory for each request and for the longest log, and time that grows with the entries
-/// and the logarithm of how many edges they have.
-pub fn audit<K: Keeper>(
+/// `Failed(Failed)` comes only where the count of faults of a keeper rose, and `Failed(OutOfMemory)` where there was no memory. No table changes. Each log is
+/// read and audited on one of at most so many threads: that costs two calls of the keeper and one for each entry, memory for the log, and time that grows
+/// with the entries. Besides it takes memory for each keeper and the place of each request.
+#[tactic(auto, using(crate::proofs::AuditLemmas::ok_so, crate::proofs::AuditLemmas::err_so, crate::proofs::KeptLemmas::same_stay))]
+pub fn audit<M: Keeper + Drop + Send, R: Threads + Sync>(
+    rt: &R,
     alloc: Global,
     config: &Config,
-    keepers: &mut K,
     requests: &[Request],
-) -> Result<LoadAudit, AuditRefusal>
-    requires { IsWorkload config.now requests.now }
-    ensures audit { WhereTold K.TELLS (IfOk result (IsAuditOf config.now (K.state keepers.old).told requests.now)) }
-    ensures refused { WhereTold K.TELLS (IfErr result (RefusesAudit config.now (K.state keepers.old).told requests.now)) }
-    ensures stays { KeepsTables K.TELLS (K.state keepers.old) (K.state keepers.new) }
-    ensures calls { CallsKeeper (AuditFailed KeeperFailed) (K.state keepers.old) (K.state keepers.new) result }
+    threads: usize,
+    keepers: Vec<M>,
+) -> Audited<M>
+    requires threads { 0 < threads }
+    requires listed { IsWorkload config.now requests.now }
+    ensures audit { WhereTold M.TELLS (IfOk result.found (IsAuditOf config.now (told_in M.state config.now.shards result.keepers.items) requests.now)) }
+    ensures refused { WhereTold M.TELLS (IfErr result.found
+        (RefusesAudit config.now (told_in M.state config.now.shards result.keepers.items) requests.now)) }
+    ensures stay { KeepersStay M.TELLS M.state keepers.items result.keepers.items }
+    ensures fault { IsErrOf result.found (AuditFailed KeeperFailed) → OneFailed M.state keepers.items result.keepers.items }
 {
-    let writes = ListedWrites::of(alloc, config, requests)?;
-    let tally = audit_shards(alloc, config, keepers, &writes)?;
-    let edges = tally.live();
-    let logs = tally.into_lengths();
-    Ok(LoadAudit { logs, edges })
+    let Ok(room) = make_room(alloc, keepers.len()) else {
+        return short_of_memory(keepers);
+    };
+    match ListedWrites::of(alloc, config, requests) {
+        Ok(writes) => audit_in(rt, alloc, config, &writes, threads, keepers, room),
+        Err(OutOfMemory) => short_of_memory(keepers),
+    }
 }

@@ -1,56 +1,52 @@
 //! What an audit has found so far.
-ghost use Rattle.std.specs.Prelude.{◌≡◌, ◌+◌, ◌++◌, ◌∷◌, [], OnOk, length};
-ghost use Rattle.load_audit.specs.Counting.{HasMetNoneFrom};
-ghost use Rattle.load_audit.specs.LiveEdges.{live_count};
+ghost use Rattle.std.specs.Prelude.{◌≡◌, ◌+◌, ◌++◌, ◌∷◌, [], OnOk};
 
-use crate::live::LiveCount;
+use crate::audits::LoadAudit;
+use crate::found::LogFound;
 use replies::Lengths;
 use std::alloc::Global;
-use tao_base::{Entry, OutOfMemory};
+use tao_base::OutOfMemory;
 
 /// The lengths of the logs of the first shards, and how many edges these leave live.
 #[derive(Drop)]
 pub(crate) struct Tally {
     lengths: Vec<u64>,
-    edges: LiveCount,
+    edges: u64,
 }
 
 impl Tally {
     /// Of no log.
     pub(crate) fn new(alloc: Global) -> Tally
         ensures lengths { result.lengths.items ≡ [] }
-        ensures live { result.edges.live ≡ 0 }
-        ensures met { HasMetNoneFrom 0 result.edges }
+        ensures edges { result.edges ≡ 0 }
     {
         Tally {
             lengths: Vec::new(alloc),
-            edges: LiveCount::new(alloc),
+            edges: 0,
         }
     }
 
-    /// Adds the log of the shard that comes next.
-    pub(crate) fn add(&mut self, shard: u16, log: &[Entry]) -> Result<(), OutOfMemory>
-        requires { HasMetNoneFrom shard self.old.edges }
-        ensures lengths { OnOk result (self.new.lengths.items ≡ self.old.lengths.items ++ length log.now ∷ []) }
-        ensures live { OnOk result (self.new.edges.live ≡ self.old.edges.live + live_count log.now) }
-        ensures met { OnOk result (HasMetNoneFrom (shard + 1) self.new.edges) }
+    /// Adds what was found of the log of the shard that comes next. More edges than their number can count are too many for any memory.
+    pub(crate) fn add(&mut self, found: LogFound) -> Result<(), OutOfMemory>
+        ensures lengths { OnOk result (self.new.lengths.items ≡ self.old.lengths.items ++ found.length ∷ []) }
+        ensures edges { OnOk result (self.new.edges ≡ self.old.edges + found.live) }
     {
-        self.edges.add_log(shard, log)?;
-        self.lengths.push(log.len() as u64)?;
+        let Some(edges) = self.edges.checked_add(found.live) else {
+            return Err(OutOfMemory);
+        };
+        self.lengths.push(found.length)?;
+        self.edges = edges;
         Ok(())
     }
 
-    /// How many edges are live.
-    pub(crate) fn live(&self) -> u64
-        ensures { result ≡ self.now.edges.live }
+    /// What was found of all logs. Takes no memory.
+    pub(crate) fn into_audit(self) -> LoadAudit
+        ensures logs { result.logs ≡ self.lengths.items }
+        ensures edges { result.edges ≡ self.edges }
     {
-        self.edges.live()
-    }
-
-    /// The lengths, in the order of the shards. Takes no memory.
-    pub(crate) fn into_lengths(self) -> Lengths
-        ensures { result ≡ self.lengths.items }
-    {
-        Lengths::of(self.lengths)
+        LoadAudit {
+            logs: Lengths::of(self.lengths),
+            edges: self.edges,
+        }
     }
 }

@@ -32,7 +32,7 @@ use Rattle.requests.specs.declared.request.Request.TheVariants as request
 use Rattle.requests.specs.declared.stores.StoreRequest.TheVariants.{Settle}
 use Rattle.tao_base.specs.Ids.{shard_of}
 use Rattle.topology.specs.Config.{Settings}
-use Rattle.load_shares.specs.Workloads.{HasChoices, IsConfigured, IsSession, WorkloadLaws}
+use Rattle.load_shares.specs.Workloads.{HasChoices, IsConfiguredRequest, IsSession, WorkloadLaws}
 
 -- ---- what is there
 
@@ -126,7 +126,7 @@ module _ (s : Settings) (c : HasChoices s) where
   read_fine : (asked : ReadCall) → IsFine (checked_query s asked.query) → IsFine (checked_call s (call.Read asked))
   read_fine asked fine = fine_then (checked_read_call s asked) _ (fine_then (checked_query s asked.query) _ fine (λ found. tt)) (λ read. tt)
 
-  obj_add_drawn : (number state : ℕ) → IsConfigured s (obj_add_in names number state).0
+  obj_add_drawn : (number state : ℕ) → IsConfiguredRequest s (obj_add_in names number state).0
   obj_add_drawn number state =
       let session = session_in names state in
       let shard = shard_in names session.1 in
@@ -138,35 +138,35 @@ module _ (s : Settings) (c : HasChoices s) where
             (λ found. fine_then (configured_shard s shard.0) _ (shard_drawn session.1) (λ there. tt)));
       }
 
-  assoc_add_drawn : (number state : ℕ) → IsConfigured s (assoc_add_in names number state).0
+  assoc_add_drawn : (number state : ℕ) → IsConfiguredRequest s (assoc_add_in names number state).0
   assoc_add_drawn number state =
       let session = session_in names state in
       let edge = edge_in names session.1 in
       let asked : WriteCall = record { session = session.0; seq = number; write = text.AssocAdd edge.0 (below 1000 edge.1).0 [] } in
       record { session = session_drawn state; named = write_fine asked (fine_then (edge_type s edge.0) _ (edge_drawn session.1) (λ atype. tt)) }
 
-  assoc_delete_drawn : (number state : ℕ) → IsConfigured s (assoc_delete_in names number state).0
+  assoc_delete_drawn : (number state : ℕ) → IsConfiguredRequest s (assoc_delete_in names number state).0
   assoc_delete_drawn number state =
       let session = session_in names state in
       let edge = edge_in names session.1 in
       let asked : WriteCall = record { session = session.0; seq = number; write = text.AssocDelete edge.0 } in
       record { session = session_drawn state; named = write_fine asked (fine_then (edge_type s edge.0) _ (edge_drawn session.1) (λ atype. tt)) }
 
-  assoc_range_drawn : (state : ℕ) → IsConfigured s (assoc_range_in names state).0
+  assoc_range_drawn : (state : ℕ) → IsConfiguredRequest s (assoc_range_in names state).0
   assoc_range_drawn state =
       let session = session_in names state in
       let list = list_in names session.1 in
       let asked : ReadCall = record { session = session.0; query = query.AssocRange list.0 0 10; critical = false } in
       record { session = session_drawn state; named = read_fine asked (fine_then (list_type s list.0) _ (list_drawn session.1) (λ atype. tt)) }
 
-  assoc_count_drawn : (state : ℕ) → IsConfigured s (assoc_count_in names state).0
+  assoc_count_drawn : (state : ℕ) → IsConfiguredRequest s (assoc_count_in names state).0
   assoc_count_drawn state =
       let session = session_in names state in
       let list = list_in names session.1 in
       let asked : ReadCall = record { session = session.0; query = query.AssocCount list.0; critical = false } in
       record { session = session_drawn state; named = read_fine asked (fine_then (list_type s list.0) _ (list_drawn session.1) (λ atype. tt)) }
 
-  call_drawn : (number kind state : ℕ) → IsConfigured s (call_of names number (kind_of kind) state).0
+  call_drawn : (number kind state : ℕ) → IsConfiguredRequest s (call_of names number (kind_of kind) state).0
   call_drawn number kind state = elim (cases_Bool (kind == 0)) [
     | inl adds ↦ rw adds (obj_add_drawn number state)
     | inr no_add ↦ rw no_add (elim (cases_Bool (nat_le kind 4)) [
@@ -186,18 +186,18 @@ module _ (s : Settings) (c : HasChoices s) where
 
   -- ---- all requests
 
-  calls_fine : (number state count : ℕ) (r : Request) → IsIn r (calls_after names number state count) → IsConfigured s r
+  calls_fine : (number state count : ℕ) (r : Request) → IsIn r (calls_after names number state count) → IsConfiguredRequest s r
   calls_fine number state zero r here = absurd here
   calls_fine number state (suc count) r (inl same) =
-      subst (IsConfigured s) same (call_drawn (number + 1) (below 10 state).0 (below 10 state).1)
+      subst (IsConfiguredRequest s) same (call_drawn (number + 1) (below 10 state).0 (below 10 state).1)
   calls_fine number state (suc count) r (inr here) = calls_fine (number + 1) (call_in names (number + 1) state).1 count r here
 
-  openings_fine : (session : ℕ) (tiers : List _) (r : Request) → IsIn r (openings_from session tiers) → IsConfigured s r
+  openings_fine : (session : ℕ) (tiers : List _) (r : Request) → IsIn r (openings_from session tiers) → IsConfiguredRequest s r
   openings_fine session [] r here = absurd here
-  openings_fine session (tier ∷ tiers) r (inl same) = subst (IsConfigured s) same tt
+  openings_fine session (tier ∷ tiers) r (inl same) = subst (IsConfiguredRequest s) same tt
   openings_fine session (tier ∷ tiers) r (inr here) = openings_fine (session + 1) tiers r here
 
-  requests_fine : (seed calls : ℕ) (r : Request) → IsIn r (requests_of s seed calls) → IsConfigured s r
+  requests_fine : (seed calls : ℕ) (r : Request) → IsIn r (requests_of s seed calls) → IsConfiguredRequest s r
   requests_fine seed calls r here = elim (in_append_cases (openings_from 1 names.tiers ++ calls_after names 0 seed calls) (request.Store Settle ∷ []) r here) [
     | inl before ↦ elim (in_append_cases (openings_from 1 names.tiers) (calls_after names 0 seed calls) r before) [
       | inl opening ↦ openings_fine 1 names.tiers r opening
@@ -206,14 +206,14 @@ module _ (s : Settings) (c : HasChoices s) where
     | inr last ↦ settles last
   ]
     where
-      settles : IsIn r (request.Store Settle ∷ []) → IsConfigured s r
-      settles (inl same) = subst (IsConfigured s) same tt
+      settles : IsIn r (request.Store Settle ∷ []) → IsConfiguredRequest s r
+      settles (inl same) = subst (IsConfiguredRequest s) same tt
       settles (inr none) = absurd none
 
-all_fine : (s : Settings) (requests : List Request) → HasChoices s → IsWorkload s requests → All (IsConfigured s) requests
+all_fine : (s : Settings) (requests : List Request) → HasChoices s → IsWorkload s requests → All (IsConfiguredRequest s) requests
 all_fine s requests c of =
-    subst (All (IsConfigured s)) (sym of.is)
-    (All-from_in (IsConfigured s) (requests_of s of.seed of.calls) (λ r here. requests_fine s c of.seed of.calls r here))
+    subst (All (IsConfiguredRequest s)) (sym of.is)
+    (All-from_in (IsConfiguredRequest s) (requests_of s of.seed of.calls) (λ r here. requests_fine s c of.seed of.calls r here))
 
 -- ---- numbers
 

@@ -29,12 +29,12 @@ pub record IsConfiguredCall (s : Settings) (call : Call) : Type 0 where
   pub named : IfErr (checked_call s call) (λ refused. ⊥)
 
 -- the request is such a call, if it is a read or a write
-abbrev pub IsConfigured : Settings → Request → Type 0
-IsConfigured s (request.Call call) = IsConfiguredCall s call
-IsConfigured s other = ⊤
+abbrev pub IsConfiguredRequest : Settings → Request → Type 0
+IsConfiguredRequest s (request.Call call) = IsConfiguredCall s call
+IsConfiguredRequest s other = ⊤
 
 -- what is so of a workload's requests: each call is of a session and of names that are there, and no two writes have one number
 pub record WorkloadLaws : Type 0 where
-  pub configured : (s : Settings) (requests : List Request) → HasChoices s → IsWorkload s requests → All (IsConfigured s) requests
+  pub configured : (s : Settings) (requests : List Request) → HasChoices s → IsWorkload s requests → All (IsConfiguredRequest s) requests
   pub alone : (s : Settings) (requests : List Request) (write other : CheckedWrite) → IsWorkload s requests → Contains (writes_of s requests) write
       → Contains (writes_of s requests) other → other.seq ≡ write.seq → other ≡ write

@@ -7,12 +7,13 @@ use Rattle.first_line.specs.declared.FirstStop.TheVariants.{Configuration, Inter
 use Rattle.first_line.specs.declared.Interrupt.TheVariants.{InputTooLong, Memory, Sink, Source}
 use Rattle.first_line.specs.Interrupts.{AppendsPart}
 use Rattle.keepers.specs.declared.steady.SteadyKeeper.{SteadyKeeper}
-use Rattle.load_top.specs.Ending.{CameSo, EndsLoad, WritesPart, tables_of}
+use Rattle.load_top.specs.Ending.{CameSo, EndsLoad, WritesPart}
 use Rattle.load_top.specs.Lines.{IsLoadLine, bad_line}
 use Rattle.load_top.specs.Statuses.{IsStatus, came_code, first_code}
 use Rattle.load_top.specs.declared.ended.Came.{Came}
 use Rattle.load_top.specs.declared.ended.Came.TheVariants.{Settled, Strange, Stuck}
 use Rattle.load_top.specs.declared.ended.Ended.{Ended}
+use Rattle.new_stores.specs.Empty.{tables_of}
 use Rattle.requests.specs.declared.request.Request.{Request}
 use Rattle.topology.specs.Config.{Settings}
 

@@ -1,2 +1,2 @@
-pub mod EmptyStores
 pub mod EndingLemmas
+pub mod StuckLoads

@@ -1,4 +1,3 @@
-pub mod Empty
 pub mod Ending
 pub mod Lines
 pub mod Statuses

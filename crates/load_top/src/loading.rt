@@ -6,11 +6,11 @@ ghost use Rattle.load_top.specs.Ending.{EndsLoad, RefusesNew, WritesPart, reques
 ghost use Rattle.tao_busy.specs.Load.{requests_asked};
 
 use crate::ended::{Came, Ended};
-use crate::made::keepers_for;
 use crate::saying::{end_bad, end_summed};
 use command_words::LoadWords;
 use first_line::{FirstLine, Interrupt};
 use keepers::SteadyKeeper;
+use new_stores::keepers_for;
 use replies::OpenRefusal;
 use std::alloc::Global;
 use std::sync::Wait;

@@ -4,9 +4,10 @@ ghost use Rattle.counts.specs.Count.{Rose};
 ghost use Rattle.first_line.specs.First.{EndsAlone, FirstHasCause, RefusesAlone, Takes};
 ghost use Rattle.first_line.specs.Interrupts.{faults};
 ghost use Rattle.first_line.specs.declared.Interrupt.TheVariants.{InputTooLong};
-ghost use Rattle.load_top.specs.Ending.{EndsAs, WritesPart, streams};
+ghost use Rattle.load_top.specs.Ending.{EndsAs, WritesPart};
 ghost use Rattle.load_top.specs.Statuses.{IsStatus, TellsNothing};
 ghost use Rattle.load_top.specs.declared.ended.Came.TheVariants.{Settled, Strange, Stuck};
+ghost use Rattle.new_stores.specs.Streams.{streams};
 
 use crate::ended::{Ended, first_code};
 use crate::loading::load_first;
@@ -53,8 +54,8 @@ fn go<T: Threads + Wait + Sync, R: Source, S: Sink, G: Gate + Sync>(
 /// - 9 where 2^40 bytes were taken and the first line's end had not come;
 /// - 10 where a log was full as the stores were settled, and 12 where a log has a client's entry of none of the calls: a line says that no good came of it.
 ///
-/// With 0, 10 and 12 the keepers are those of the stores, in order of region, then of shard; else there are none. What was written before any status is a
-/// front of one line.
+/// With 0 no call was refused, where no log came to its end. With 0, 10 and 12 the keepers are those of the stores, in order of region, then of shard;
+/// else there are none. What was written before any status is a front of one line.
 pub fn load_top<T: Threads + Wait + Sync, R: Source, S: Sink, G: Gate + Sync>(
     rt: &T,
     alloc: Global,

@@ -1,6 +1,5 @@
 mod Audited
 mod CallCounts
-mod Configured
 mod Ends
 mod Loaded
 mod Meets

@@ -9,7 +9,7 @@ use Rattle.load_audit.specs.Listed.{missing_adds}
 use Rattle.load_shares.proofs.Shared.{one_more}
 use Rattle.load_shares.specs.Seen.{AllBegin, SeeOn}
 use Rattle.load_shares.specs.Turns.{one_call, share_of, taken_of}
-use Rattle.load_shares.specs.Workloads.{IsConfigured}
+use Rattle.load_shares.specs.Workloads.{IsConfiguredRequest}
 use Rattle.load_shares.specs.declared.tallies.Tally.{Tally}
 use Rattle.requests.specs.declared.request.Request.{Request}
 use Rattle.session_pass.specs.Passes.{SeenPass}
@@ -76,7 +76,7 @@ module _ {M : Type 0} (on : OnCluster M) (requests : List Request) (index : ℕ)
       uncut = way.uncut;
       limit = way.limit;
       room = way.room;
-      configured = alone (IsConfigured on.making.settings) way.configured;
+      configured = alone (IsConfiguredRequest on.making.settings) way.configured;
       own = alone (λ one. EachLog (HasOwnEntries on.making.settings one) logs) way.own;
     }
 

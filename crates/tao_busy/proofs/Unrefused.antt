@@ -1,7 +1,6 @@
 -- A call is refused for nothing but want of memory, where nothing is in its way.
-use Rattle.std.proofs.Common.{◌≡◌, ℕ, zero, suc, ◌+◌, ◌≤◌, ◌<◌, Bool, true, false, List, [], ◌∷◌, drop, length, Option, Some, None, Result, Ok, Err, refl, sym, ap, subst, inl, inr, arith, length-append}
-use Rattle.std.specs.List.{list_any}
-use Rattle.std.specs.Prelude.{◌==◌, IfErr, cond, IsSomeAnd, nat_le, slice_get}
+use Rattle.std.proofs.Common.{◌≡◌, ℕ, zero, suc, ◌+◌, ◌≤◌, ◌<◌, true, false, List, [], ◌∷◌, drop, length, Option, Some, None, Result, Ok, Err, refl, sym, ap, subst, inl, inr, arith, length-append}
+use Rattle.std.specs.Prelude.{◌==◌, IfErr, IsSomeAnd, nat_le, slice_get}
 use Rattle.std.specs.Result.{result_ok}
 use Rattle.std.proofs.lemmas.Bool.Decides.{nat_tests}
 use Rattle.std.proofs.lemmas.Grind.{flat_map-append}
@@ -15,14 +14,14 @@ use Rattle.graph_model.proofs.Members.{All-in, IsIn, in_any, in_append_left, in_
 use Rattle.graph_model.specs.Edges.{edge_record, number_of}
 use Rattle.graph_model.specs.Log.{additions, is_addition}
 use Rattle.graph_model.specs.Soundness.{EdgeUpdate, updates_of}
-use Rattle.load_audit.proofs.LastRecords.{last_record_laws}
+use Rattle.load_audit.proofs.LastRecords.{in_all, last_record_laws}
 use Rattle.load_audit.specs.Listed.{write_in}
 use Rattle.load_audit.specs.LiveEdges.{last_records, records_of}
 use Rattle.load_gen.specs.Summary.{refusals_in}
 use Rattle.load_shares.proofs.Additions.{some_parts, stands_on}
 use Rattle.load_shares.specs.Seen.{BeginLogs}
 use Rattle.load_shares.specs.Tallies.{says_memory}
-use Rattle.load_shares.specs.Workloads.{IsConfigured, IsSession}
+use Rattle.load_shares.specs.Workloads.{IsConfiguredRequest, IsSession}
 use Rattle.outcomes.specs.Results.{◌>>=◌}
 use Rattle.replies.specs.declared.calls.CallReply.TheVariants.{Read as OfRead, Write as OfWrite}
 use Rattle.replies.specs.declared.refusals.NameRefused.{NameRefused}
@@ -58,7 +57,7 @@ use Rattle.tao_base.specs.declared.entry.Origin.TheVariants.{Client}
 use Rattle.tao_base.specs.declared.write.Write.{Write}
 use Rattle.tao_base.specs.declared.write.Write.TheVariants.{ObjAdd, ObjUpdate, ObjDelete, AssocAdd, AssocDelete, AssocChangeType}
 use Rattle.topology.specs.Config.{Settings}
-use Rattle.write_model.specs.Writes.{own_updates, same_edge}
+use Rattle.write_model.specs.Writes.{own_updates}
 use Rattle.write_touches.specs.Touching.{lacks_serial, lacks_stamp}
 use Rattle.tao_busy.specs.Refusing.{EachLog, HasOwnEntries, HasRoomToWrite, HaveClearWay, IsCallOf}
 
@@ -77,16 +76,6 @@ serial_left entries (ObjDelete id) few full = absurd (cc)
 serial_left entries (AssocAdd id1 atype id2 time payload) few full = absurd (cc)
 serial_left entries (AssocDelete id1 atype id2) few full = absurd (cc)
 serial_left entries (AssocChangeType id1 atype id2 newtype) few full = absurd (cc)
-
--- a last record is a record
-in_all : (u : EdgeUpdate) (us : List EdgeUpdate) → IsIn u (last_records us) → IsIn u us
-in_all u [] here = absurd here
-in_all u (v ∷ later) here = by (in_all u later) (list_any (same_edge v) later) here
-  where
-    by : (IsIn u (last_records later) → IsIn u later) → (b : Bool) → IsIn u (cond b (last_records later) (v ∷ last_records later)) → IsIn u (v ∷ later)
-    by before true h = inr (before h)
-    by before false (inl same) = inl same
-    by before false (inr h) = inr (before h)
 
 -- what a beginning of a log says of an edge is a record of the log
 is_record : (entries log : List Entry) (u : EdgeUpdate) → Begins entries log → edge_record entries u.0 u.1 u.2 ≡ Some u.3 → IsIn u (records_of log)
@@ -132,8 +121,8 @@ module _ {M : Type 0} (on : OnCluster M) (old new : Calling) (told_so : on.tells
         none seen.0 log.0 (omega (arith, long, within)) log.1 log.2 seen.2
 
     module _ (r : Request) (way : HaveClearWay on logs (r ∷ [])) where
-      configured : IsConfigured on.making.settings r
-      configured = All-in (IsConfigured on.making.settings) (r ∷ []) r way.configured (inl refl)
+      configured : IsConfiguredRequest on.making.settings r
+      configured = All-in (IsConfiguredRequest on.making.settings) (r ∷ []) r way.configured (inl refl)
 
       own : EachLog (HasOwnEntries on.making.settings r) logs
       own = All-in (λ (one : Request). EachLog (HasOwnEntries on.making.settings one) logs) (r ∷ []) r way.own (inl refl)
@@ -297,7 +286,7 @@ module _ {M : Type 0} (on : OnCluster M) (old new : Calling) (told_so : on.tells
 
 -- ---- whose call it is
 
-pub session_of : (s : Settings) (session : ℕ) (r : Request) → IsCallOf session r → IsConfigured s r → IsSession s session
+pub session_of : (s : Settings) (session : ℕ) (r : Request) → IsCallOf session r → IsConfiguredRequest s r → IsSession s session
 session_of s session (request.Call asked) mine is = subst (IsSession s) mine is.session
 session_of s session (request.Open opening) mine is = absurd mine
 session_of s session (request.Plan asked) mine is = absurd mine

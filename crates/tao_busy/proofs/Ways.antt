@@ -10,7 +10,7 @@ use Rattle.graph_model.specs.Soundness.{is_client}
 use Rattle.load_audit.specs.Audits.{AreListedBelow, logs_in}
 use Rattle.load_audit.specs.Listed.{IsKnown, IsWorkload, origin_of, write_in, writes_of}
 use Rattle.load_shares.proofs.WorkloadCalls.{workload_laws}
-use Rattle.load_shares.specs.Workloads.{HasChoices, IsConfigured}
+use Rattle.load_shares.specs.Workloads.{HasChoices, IsConfiguredRequest}
 use Rattle.request_check.specs.declared.checked.CheckedWrite.{CheckedWrite}
 use Rattle.requests.specs.declared.request.Request.{Request}
 use Rattle.shared_tiers.specs.locked_nodes.Cluster.{OnCluster}
@@ -56,7 +56,7 @@ clear_way on s tables requests made choices workload listed clear = record {
   uncut = subst (λ (t : Settings). HaveNoCuts t on.making.cut) made clear.uncut;
   limit = subst (λ (t : Settings). t.log_max ≤ 65536) made choices.entries;
   room = subst (λ (t : Settings). EachLog (HasRoomToWrite t) (logs_in s tables)) made (each_log s tables (HasRoomToWrite s) clear.room);
-  configured = subst (λ (t : Settings). All (IsConfigured t) requests) made (workload_laws.configured s requests choices workload);
+  configured = subst (λ (t : Settings). All (IsConfiguredRequest t) requests) made (workload_laws.configured s requests choices workload);
   own = subst (λ (t : Settings). All (λ request. EachLog (HasOwnEntries t request) (logs_in s tables)) requests) made
       (All-from_in (λ request. EachLog (HasOwnEntries s request) (logs_in s tables)) requests (own_entries s tables requests workload listed));
 }

@@ -1,5 +1,4 @@
 pub mod Counting
 pub mod Ending
-pub mod Hands
 pub mod Load
 pub mod Refusing

@@ -7,7 +7,7 @@ use Rattle.load_audit.specs.Listed.{origin_of, write_in}
 use Rattle.load_audit.specs.LiveEdges.{records_of}
 use Rattle.load_gen.specs.Names.{names_of}
 use Rattle.load_shares.specs.Seen.{AllBegin, BeginLogs}
-use Rattle.load_shares.specs.Workloads.{IsConfigured}
+use Rattle.load_shares.specs.Workloads.{IsConfiguredRequest}
 use Rattle.load_shares.specs.declared.tallies.Tally.{Tally}
 use Rattle.request_check.specs.declared.checked.CheckedWrite.{CheckedWrite}
 use Rattle.requests.specs.CallWords.{asking_session}
@@ -66,7 +66,7 @@ pub record HaveClearWay {M : Type 0} (on : OnCluster M) (logs : List (List Entry
   pub uncut : HaveNoCuts on.making.settings on.making.cut
   pub limit : on.making.settings.log_max ≤ 65536
   pub room : EachLog (HasRoomToWrite on.making.settings) logs
-  pub configured : All (IsConfigured on.making.settings) requests
+  pub configured : All (IsConfiguredRequest on.making.settings) requests
   pub own : All (λ request. EachLog (HasOwnEntries on.making.settings request) logs) requests
 
 -- of these requests none was refused, unless memory was wanted, where nothing was in their way in any logs that begin with what the passes have seen

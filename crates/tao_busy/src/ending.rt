@@ -1,16 +1,16 @@
 //! The end of a load: its closed cluster is settled, and its logs are read.
-ghost use Rattle.std.specs.Prelude.{◌≡◌, ◌≤◌, ◌<◌, IfErr, IfOk, List, length};
+ghost use Rattle.std.specs.Prelude.{◌≡◌, ◌≤◌, ◌<◌, List, length};
 ghost use Rattle.core_model.specs.Stores.{store_count};
 ghost use Rattle.graph_model.specs.Told.{WhereTold};
 ghost use Rattle.keepers.specs.Shown.{told_in};
-ghost use Rattle.load_audit.specs.Audits.{IsAuditOf, RefusesAudit, logs_in};
+ghost use Rattle.load_audit.specs.Audits.{RefusesAudit, logs_in};
 ghost use Rattle.load_audit.specs.Listed.{IsWorkload, missing_adds};
 ghost use Rattle.replies.specs.declared.refusals.UnsettledWhy.TheVariants.{LinkFault as LinkFailed, LogFull as Full};
 ghost use Rattle.requests.specs.declared.request.Request.{Request as OneRequest};
 ghost use Rattle.shared_tiers.specs.cluster_closing.unlocked_nodes.Unlocked.{MaySettle};
 ghost use Rattle.shared_tiers.specs.locked_nodes.Cluster.{on_cluster};
 ghost use Rattle.tao_busy.specs.Counting.{AreShares, AreWell};
-ghost use Rattle.tao_busy.specs.Ending.{ComesToEnd, KeepsLogs, load_start};
+ghost use Rattle.tao_busy.specs.Ending.{ComesToEnd, load_start};
 ghost use Rattle.tao_busy.specs.Load.{IsSettledLoad, OwesToFullLog, RefusesRun, SaysCame};
 ghost use Rattle.tao_busy.specs.Refusing.{HaveClearWay};
 ghost use Rattle.topology.specs.Config.{Settings};
@@ -18,15 +18,15 @@ ghost use Rattle.topology.specs.Config.{Settings};
 use crate::asked::{BusyRefusal, LoadSummary};
 use crate::meeting::{is_any_short, meet_shares};
 use crate::shares::Share;
-use load_audit::{AuditRefusal, LoadAudit, audit};
+use load_audit::{AuditRefusal, Audited, LoadAudit, audit};
 use load_shares::has_choices;
 use replies::{Refusal, Reply, StoreRefused, UnsettledWhy};
 use requests::Request;
 use shared_stores::Sharing;
 use shared_tiers::cluster_closing::Closed;
-use shared_tiers::cluster_opening::{PlacedKeepers, Places, faults_of, rose};
+use shared_tiers::cluster_opening::{faults_of, rose};
 use std::alloc::Global;
-use std::marker::Brand;
+use std::thread::Threads;
 use tao_base::OutOfMemory;
 use tao_keeper::{KeepFail, Keeper};
 use tao_link::SteadyLink;
@@ -89,35 +89,6 @@ fn stuck<M: Keeper>(shard: u16, why: UnsettledWhy, before: u64, keepers: Vec<M>)
     }
 }
 
-/// What was found, and the keepers of which.
-struct Audited<M> {
-    found: Result<LoadAudit, AuditRefusal>,
-    keepers: Vec<M>,
-}
-
-/// Audits the logs that the keepers tell.
-fn audit_placed<M: Keeper, P: Places>(
-    alloc: Global,
-    config: &Config,
-    requests: &[Request],
-    keepers: Vec<M>,
-) -> Audited<M>
-    requires shards { P.shards ≡ config.now.shards }
-    requires count { P.count ≡ length keepers.items }
-    requires listed { IsWorkload config.now requests.now }
-    ensures many { length result.keepers.items ≡ length keepers.items }
-    ensures audit { WhereTold M.TELLS (IfOk result.found (IsAuditOf config.now (told_in M.state config.now.shards result.keepers.items) requests.now)) }
-    ensures refused { WhereTold M.TELLS (IfErr result.found (RefusesAudit config.now (told_in M.state config.now.shards result.keepers.items) requests.now)) }
-    ensures stays { WhereTold M.TELLS (KeepsLogs (told_in M.state config.now.shards keepers.items) (told_in M.state config.now.shards result.keepers.items)) }
-{
-    let mut placed = PlacedKeepers::<M, P>::of(keepers, config.shards);
-    let found = audit(alloc, config, &mut placed, requests);
-    Audited {
-        found,
-        keepers: placed.into_keepers(),
-    }
-}
-
 /// Why a load came to no summary, where its audit didn't pass. A keeper's fault is said only as their counts, added up, rose: else it is want of memory.
 fn unaudited<M: Keeper>(why: AuditRefusal, before: u64, keepers: Vec<M>) -> BusyRefusal<M>
     ensures { (s : Settings) (requests : List OneRequest) → length keepers.items ≡ store_count s
@@ -140,15 +111,18 @@ fn unaudited<M: Keeper>(why: AuditRefusal, before: u64, keepers: Vec<M>) -> Busy
     }
 }
 
-/// The summary of a load that was settled, by the logs that the keepers tell.
-fn summed<M: Keeper + Drop, J: Sharing>(
+/// The summary of a load that was settled, by the logs that the keepers tell, which are audited on at most so many threads.
+fn summed<M: Keeper + Drop + Send, J: Sharing, R: Threads + Sync>(
+    rt: &R,
     alloc: Global,
     config: &Config,
     requests: &[Request],
+    threads: usize,
     refused: u64,
     before: u64,
     keepers: Vec<M>,
 ) -> Result<(LoadSummary, Vec<M>), BusyRefusal<M>>
+    requires threads { 0 < threads }
     requires config { config.now ≡ J.making.settings }
     requires listed { IsWorkload config.now requests.now }
     requires many { length keepers.items ≡ store_count config.now }
@@ -159,7 +133,7 @@ fn summed<M: Keeper + Drop, J: Sharing>(
     ensures ends { ComesToEnd M.TELLS M.state config.now requests.now (load_start before J.making.cut) result }
 {
     has_choices(config);
-    let Audited { found, keepers } = audit_placed::<M, Brand>(alloc, config, requests, keepers);
+    let Audited { found, keepers } = audit(rt, alloc, config, requests, threads, keepers);
     match found {
         Ok(LoadAudit { logs, edges }) => Ok((
             LoadSummary {
@@ -174,7 +148,8 @@ fn summed<M: Keeper + Drop, J: Sharing>(
 }
 
 /// The end of a load whose cluster was settled.
-fn end_settled<M: Keeper + Drop, J: Sharing>(
+fn end_settled<M: Keeper + Drop + Send, J: Sharing, R: Threads + Sync>(
+    rt: &R,
     alloc: Global,
     config: &Config,
     closed: Closed<'_, M, J>,
@@ -193,10 +168,20 @@ fn end_settled<M: Keeper + Drop, J: Sharing>(
 {
     let mut closed = closed;
     let Ran { requests, shares } = ran;
+    let threads = shares.len();
     match meet_shares(&mut closed, config.shards, shares, requests.as_slice()) {
         Ok(refused) => {
             let keepers = closed.keepers();
-            summed::<M, J>(alloc, config, requests.as_slice(), refused, before, keepers)
+            summed::<M, J, R>(
+                rt,
+                alloc,
+                config,
+                requests.as_slice(),
+                threads,
+                refused,
+                before,
+                keepers,
+            )
         }
         Err(OutOfMemory) => Err(BusyRefusal::OutOfMemory {
             keepers: closed.keepers(),
@@ -204,8 +189,9 @@ fn end_settled<M: Keeper + Drop, J: Sharing>(
     }
 }
 
-/// The end of a load: the closed cluster is settled, and its logs are read.
-pub(crate) fn end_load<M: Keeper + Drop, J: Sharing>(
+/// The end of a load: the closed cluster is settled, and its logs are read on as many threads as its calls were made on.
+pub(crate) fn end_load<M: Keeper + Drop + Send, J: Sharing, R: Threads + Sync>(
+    rt: &R,
     alloc: Global,
     config: &Config,
     closed: Closed<'_, M, J>,
@@ -231,7 +217,7 @@ pub(crate) fn end_load<M: Keeper + Drop, J: Sharing>(
     let came = came_of(&said);
     drop(said);
     match came {
-        Came::Settled => end_settled(alloc, config, closed, ran, before),
+        Came::Settled => end_settled(rt, alloc, config, closed, ran, before),
         Came::Stuck { shard, why } => Err(stuck(shard, why, before, closed.keepers())),
         Came::OutOfMemory => Err(BusyRefusal::OutOfMemory {
             keepers: closed.keepers(),

@@ -17,7 +17,6 @@ mod asked;
 mod draining;
 mod ending;
 mod gate;
-mod hands;
 mod link;
 mod loading;
 mod meeting;

@@ -81,7 +81,7 @@ fn load_shared<
     let ran = run_cluster(rt, alloc, &cluster, asked, gate);
     let closed = cluster.close();
     match ran {
-        Ok(ran) => end_load(alloc, asked.config, closed, ran, before),
+        Ok(ran) => end_load(rt, alloc, asked.config, closed, ran, before),
         Err(OutOfMemory) => Err(BusyRefusal::OutOfMemory {
             keepers: closed.keepers(),
         }),

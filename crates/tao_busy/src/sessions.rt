@@ -7,6 +7,7 @@ ghost use Rattle.shared_tiers.specs.locked_nodes.Passes.{IsPassOf};
 ghost use Rattle.tao_busy.specs.Refusing.{AreNumbered, HaveEachSession};
 ghost use Rattle.topology.specs.Counts.{tier_count};
 
+use cluster_hands::region_count;
 use core_model::tier_count;
 use session_pass::Pass;
 use shared_stores::Sharing;
@@ -15,14 +16,6 @@ use std::alloc::Global;
 use std::sync::Wait;
 use tao_base::OutOfMemory;
 use tao_keeper::Keeper;
-use topology::Config;
-
-/// How many regions a configuration has.
-pub(crate) fn region_count(config: &Config) -> u16
-    ensures { result ≡ length config.now.regions }
-{
-    config.regions.as_slice().len() as u16
-}
 
 /// Adds the pass of a tier, which comes next: its session is the next one.
 fn add_pass<K: Keeper, J: Sharing, R: Wait>(

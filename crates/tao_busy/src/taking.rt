@@ -3,14 +3,14 @@ ghost use Rattle.std.specs.Prelude.{◌≡◌, ◌≤◌, ◌<◌, ◌+◌, ◌�
 ghost use Rattle.shared_tiers.specs.cluster_pumps.Hands.{IsHandOf};
 ghost use Rattle.shared_tiers.specs.locked_nodes.Cluster.{on_cluster};
 ghost use Rattle.shared_tiers.specs.locked_nodes.Passes.{IsPassOf, PassGoesOn};
-ghost use Rattle.tao_busy.specs.Hands.{EachHand};
+ghost use Rattle.cluster_hands.specs.Hands.{EachHand};
 ghost use Rattle.load_shares.specs.Seen.{EachPass, SeeOn};
 ghost use Rattle.tao_busy.specs.Counting.{MissesFew, MissesNone};
 ghost use Rattle.tao_busy.specs.Refusing.{HaveEachSession, IsCallOf, RefusesNoneOf, RefusesNot, RefusesNotOf};
 
 use crate::gate::Gate;
-use crate::hands::hand_place;
 use crate::link::GateLink;
+use cluster_hands::hand_place;
 use load_shares::{Tally, no_tally, one_refusal, reading_of, tally_of};
 use node_name::NodeName;
 use requests::{CacheRequest, Request, StoreRequest};

@@ -1,9 +1,7 @@
 use Rattle.std.proofs.Common.{◌≡◌, ◌++◌, drop, map}
 use Rattle.std.specs.Prelude.{filter}
-use Rattle.load_audit.specs.Listed.{write_in}
 use Rattle.load_gen.specs.Summary.{is_call}
 use Rattle.load_audit.proofs.writes.calls_in.Given as goal
 
 abbrev pub invariant-loop-request : goal.invariant-loop-request
-invariant-loop-request l =
-    l.calls.items ++ map (write_in l.config) (filter is_call (drop l.request-index l.requests)) ≡ map (write_in l.config) (filter is_call l.requests)
+invariant-loop-request l = map (λ call. call.now) l.calls.items ++ filter is_call (drop l.request-index l.requests) ≡ filter is_call l.requests

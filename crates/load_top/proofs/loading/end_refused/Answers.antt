@@ -1,7 +1,8 @@
 use Rattle.std.proofs.Common.{true, subst}
 use Rattle.std.specs.Io.KnownBytes.{Appends}
 use Rattle.keepers.specs.Steady.{shown_steady}
-use Rattle.load_top.proofs.EmptyStores.{full_log, none_rose, open_refused, shown_so, told_none}
+use Rattle.load_top.proofs.StuckLoads.{full_log}
+use Rattle.new_stores.proofs.EmptyStores.{none_rose, open_refused, shown_so, told_none}
 use Rattle.load_top.proofs.EndingLemmas.{ends_so, part_none}
 use Rattle.load_top.specs.Lines.{bad_line}
 use Rattle.load_top.specs.declared.ended.Came.TheVariants.{Stuck}

@@ -1,7 +1,8 @@
 use Rattle.std.proofs.Common.{◌≡◌, ◌∙◌, None, Some, inr, refl, sym}
 use Rattle.std.specs.Io.KnownBytes.{Appends}
-use Rattle.load_top.proofs.EmptyStores.{empty_may_open, no_jobs}
+use Rattle.new_stores.proofs.EmptyStores.{empty_may_open, no_jobs}
 use Rattle.load_top.proofs.EndingLemmas.{ends_so, part_none_on, part_of}
+use Rattle.load_top.proofs.StuckLoads.{none_refused}
 use Rattle.load_top.specs.Ending.{requests_by}
 use Rattle.load_top.specs.Lines.{summary_line}
 use Rattle.load_top.specs.declared.ended.Came.TheVariants.{Settled}
@@ -24,7 +25,12 @@ returns-in-Ok-clause-ok g c =
     let s = c.args.first.now.config in
     ends_so c.end_summed.result s (requests_by c.args.words s) Settled c.in-Ok.keepers.items
     (Appends (g.S.Sink.taken c.args.output.now) (g.S.Sink.taken c.end_summed.new.output)) (summary_line c.in-Ok.summary) c.in-Ok.ensures.many
-    (λ written. (c.in-Ok.summary, c.in-Ok.ensures.leaves refl, written))
+    (λ written. (
+      c.in-Ok.summary,
+      c.in-Ok.ensures.leaves refl,
+      none_refused s c.in_ok-keepers.keepers.items c.in-Ok.keepers.items c.in-Ok.summary c.in_ok-keepers.ensures.empty (c.in-Ok.ensures.none refl),
+      written,
+    ))
     c.end_summed.ensures.came c.end_summed.ensures.back c.end_summed.ensures.ok
 
 pub returns-in-Ok-clause-part : goal.returns-in-Ok-clause-part

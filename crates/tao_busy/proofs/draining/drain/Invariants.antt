@@ -1,5 +1,5 @@
 use Rattle.shared_tiers.specs.cluster_pumps.Hands.{IsHandOf}
-use Rattle.tao_busy.specs.Hands.{EachHand}
+use Rattle.cluster_hands.specs.Hands.{EachHand}
 use Rattle.tao_busy.proofs.draining.drain.Given as goal
 
 abbrev pub invariant-loop-place : goal.invariant-loop-place

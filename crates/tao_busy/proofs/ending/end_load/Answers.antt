@@ -6,7 +6,7 @@ use Rattle.tao_busy.specs.Load.{OwesToFullLog, SaysCame}
 use Rattle.tao_busy.proofs.ending.end_load.Goals as goal
 
 pub end_settled-requires-clause-settled : goal.end_settled-requires-clause-settled
-end_settled-requires-clause-settled g c = λ told.
+end_settled-requires-clause-settled g c κs within = λ told.
     let left = c.settle-said.new.self in
     let said = subst (SaysCame c.settle-said.result) c.in-Settled.is c.came_of-came.ensures in
     settled_so g.M.Keeper.TELLS g.M.Keeper.state g.J.Sharing.making.settings c.args.closed.unlocked.fleet left.unlocked.fleet c.args.closed.keepers.items

@@ -2,7 +2,7 @@ use Rattle.std.proofs.Common.{◌≤◌}
 use Rattle.shared_tiers.specs.cluster_pumps.Hands.{IsHandOf}
 use Rattle.shared_tiers.specs.locked_nodes.Passes.{IsPassOf}
 use Rattle.load_shares.specs.Seen.{EachPass}
-use Rattle.tao_busy.specs.Hands.{EachHand}
+use Rattle.cluster_hands.specs.Hands.{EachHand}
 use Rattle.shared_tiers.specs.locked_nodes.Cluster.{on_cluster}
 use Rattle.tao_busy.specs.Refusing.{HaveEachSession, RefusesNoneOf}
 use Rattle.tao_busy.proofs.Running.{MissesSoFar}

@@ -2,7 +2,7 @@ use Rattle.std.proofs.Common.{◌≡◌, ◌+◌, [], ◌∷◌, arith, inl, ref
 use Rattle.std.proofs.lemmas.List.{with_items_is}
 use Rattle.graph_model.proofs.Members.{All-in}
 use Rattle.load_shares.specs.Seen.{AllBegin}
-use Rattle.load_shares.specs.Workloads.{IsConfigured}
+use Rattle.load_shares.specs.Workloads.{IsConfiguredRequest}
 use Rattle.tao_busy.proofs.Unrefused.{session_of}
 use Rattle.tao_busy.proofs.taking.ask.Goals as goal
 use Rattle.tao_busy.specs.Refusing.{HaveEachSession, IsCallOf}
@@ -27,7 +27,7 @@ returns-then-place-len-clause-none g c = λ told logs all way well.
     let back = with_items_is c.args.worker.now.passes c.ask_at.new.passes (c.ask_at.auto.passes ∙ c.as_mut_slice.ensures.len) in
     let s = g.J.Sharing.making.settings in
     let request = c.args.request.now in
-    let session = session_of s c.args.session request c.requires.session (All-in (IsConfigured s) (request ∷ []) request way.configured (inl refl)) in
+    let session = session_of s c.args.session request c.requires.session (All-in (IsConfiguredRequest s) (request ∷ []) request way.configured (inl refl)) in
     let first = session.first in
     let place : c.args.session ≡ c.saturating_sub-place.result + 1 = omega (arith, first, c.saturating_sub-place.ensures) in
     c.ask_at.ensures.none told (subst (λ n. IsCallOf n request) place c.requires.session) logs (subst (AllBegin logs) back all) way well
@@ -36,7 +36,7 @@ pub returns-else-place-len-clause-none : goal.returns-else-place-len-clause-none
 returns-else-place-len-clause-none g c = λ told logs all way well.
     let s = g.J.Sharing.making.settings in
     let request = c.args.request.now in
-    let session = session_of s c.args.session request c.requires.session (All-in (IsConfigured s) (request ∷ []) request way.configured (inl refl)) in
+    let session = session_of s c.args.session request c.requires.session (All-in (IsConfiguredRequest s) (request ∷ []) request way.configured (inl refl)) in
     let first = session.first in
     let last = session.last in
     let many = c.requires.sessions.many in

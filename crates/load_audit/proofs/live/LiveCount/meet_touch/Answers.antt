@@ -4,7 +4,7 @@ use Rattle.load_audit.proofs.live.LiveCount.meet_touch.Goals as goal
 
 pub returns-in_ok-is_first-in-Some : goal.returns-in_ok-is_first-in-Some
 returns-in_ok-is_first-in-Some c =
-    touch_met c.args.shard c.args.touch.now c.in-Some.edge c.in-Some.is_live c.in_ok-is_first-in-Some.is_first c.args.self.now _ (sym c.in-Some.ensures)
+    touch_met c.args.touch.now c.in-Some.edge c.in-Some.is_live c.in_ok-is_first-in-Some.is_first c.args.self.now _ (sym c.in-Some.ensures)
     (record {
       first = c.in_ok-is_first-in-Some.ensures.first;
       after = c.in_ok-is_first-in-Some.ensures.after;

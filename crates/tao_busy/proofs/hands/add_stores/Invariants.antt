@@ -1,6 +1,0 @@
-use Rattle.shared_tiers.specs.cluster_pumps.Hands.{IsHandOf}
-use Rattle.tao_busy.specs.Hands.{EachHand}
-use Rattle.tao_busy.proofs.hands.add_stores.Given as goal
-
-abbrev pub invariant-loop-shard : goal.invariant-loop-shard
-invariant-loop-shard g l = EachHand (IsHandOf g.J.Sharing.making l.cluster) l.hands.items

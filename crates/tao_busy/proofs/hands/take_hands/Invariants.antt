@@ -1,6 +1,0 @@
-use Rattle.shared_tiers.specs.cluster_pumps.Hands.{IsHandOf}
-use Rattle.tao_busy.specs.Hands.{EachHand}
-use Rattle.tao_busy.proofs.hands.take_hands.Given as goal
-
-abbrev pub invariant-loop-region : goal.invariant-loop-region
-invariant-loop-region g l = EachHand (IsHandOf g.J.Sharing.making l.cluster) l.hands.items

@@ -1,0 +1,4 @@
+pub mod Answering
+pub mod Polls
+pub mod Refusing
+pub mod UnderWay

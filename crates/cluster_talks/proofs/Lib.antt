@@ -1,0 +1,4 @@
+pub mod AnswerLemmas
+pub mod ReadsLemmas
+pub mod StepLemmas
+pub mod TalkedLemmas

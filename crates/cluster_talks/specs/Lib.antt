@@ -1,0 +1,4 @@
+pub mod TalkStates
+pub mod TalkTexts
+pub mod TalkSteps
+pub mod Talked

@@ -43,6 +43,14 @@ threadless_app = with_rule (with_rule (new_app (codes "load")) seed_rule) calls_
 abbrev pub load_shape : Shape
 load_shape = (with_rule threadless_app threads_rule).top
 
+-- `--port N`: from 1 to 65,535
+abbrev pub port_rule : Rule
+port_rule = named_number (codes "port") 1 65535
+
+-- `serve --port N`
+abbrev pub serve_shape : Shape
+serve_shape = (with_rule (new_app (codes "serve")) port_rule).top
+
 -- the program without its subcommands: the words don't begin with its name, and one of the subcommands is needed
 abbrev pub bare_app : App
 bare_app = record {
@@ -55,9 +63,13 @@ bare_app = record {
   subs = [];
 }
 
--- the program with its subcommands, `run`, `gen` and `load`
+-- the program with the subcommands `run`, `gen` and `load`
+abbrev pub made_app : App
+made_app = with_subcommand (with_subcommand (with_subcommand bare_app run_shape) gen_shape) load_shape
+
+-- the program with its subcommands, `run`, `gen`, `load` and `serve`
 abbrev pub tao_app : App
-tao_app = with_subcommand (with_subcommand (with_subcommand bare_app run_shape) gen_shape) load_shape
+tao_app = with_subcommand made_app serve_shape
 
 -- the kinds of faults that the words have: none where they are the program's
 unfoldable pub faults_in : List Text → Kinds

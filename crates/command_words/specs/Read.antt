@@ -11,7 +11,7 @@ use Rattle.clap.specs.declared.error.kind.ErrorKind.TheVariants as kind
 use Rattle.command_words.specs.CommandLine.{faults_in, subcommand_in}
 use Rattle.command_words.specs.declared.read.LoadWords.{LoadWords}
 use Rattle.command_words.specs.declared.read.ProgramWords.{ProgramWords}
-use Rattle.command_words.specs.declared.read.ProgramWords.TheVariants.{Load, OneThread}
+use Rattle.command_words.specs.declared.read.ProgramWords.TheVariants.{Load, OneThread, Serve}
 use Rattle.command_words.specs.declared.read.Words.{Words}
 use Rattle.command_words.specs.declared.read.Words.TheVariants.{Gen, Run}
 use Rattle.command_words.specs.declared.read.WordsRefusal.{WordsRefusal}
@@ -41,12 +41,23 @@ load_in rows = do
   count ← thread_count threads
   Some (record { threads = count; seed = seed; calls = calls })
 
--- what a subcommand is asked for: `run`, `gen`, or else `load`
+-- a port: from 1 to 65,535
+abbrev pub port_number : ℕ → Option ℕ
+port_number n = then_some (nat_lt 0 n && nat_lt n 65536) n
+
+-- what `serve` is asked for, where its option is a port
+abbrev pub serve_in : List Row → Option ProgramWords
+serve_in rows = do
+  number ← number_in rows (codes "port")
+  port ← port_number number
+  Some (Serve port)
+
+-- what a subcommand is asked for: `run`, `gen`, `load`, or else `serve`
 abbrev pub command_in : Text × List Row → Option ProgramWords
 command_in named =
     if bytes_eq named.0 (codes "run") then Some (OneThread (Run (first_of (codes "sql") named.1)))
     else (if bytes_eq named.0 (codes "gen") then option_map (λ words. OneThread words) (gen_in named.1)
-    else option_map (λ words. Load words) (load_in named.1))
+    else (if bytes_eq named.0 (codes "load") then option_map (λ words. Load words) (load_in named.1) else serve_in named.1))
 
 -- what the words ask for, unless they have a fault of any kind
 abbrev pub unless_fault : Kinds → Option ProgramWords → Result ProgramWords WordsRefusal
@@ -61,6 +72,7 @@ program_words_in words = unless_fault (faults_in words) (option_and_then command
 abbrev pub on_one_thread : Result ProgramWords WordsRefusal → Result Words WordsRefusal
 on_one_thread (Ok (OneThread words)) = Ok words
 on_one_thread (Ok (Load words)) = Err Usage
+on_one_thread (Ok (Serve port)) = Err Usage
 on_one_thread (Err refusal) = Err refusal
 
 -- what the words ask of a run, which is on one thread
@@ -75,6 +87,7 @@ HasThreads words = (1 ≤ words.threads) × (words.threads ≤ 16)
 abbrev pub HasThreadsIfAny : ProgramWords → Type 0
 HasThreadsIfAny (OneThread words) = ⊤
 HasThreadsIfAny (Load words) = HasThreads words
+HasThreadsIfAny (Serve port) = ⊤
 
 -- the refusal, unless it is out of memory
 abbrev pub usage_unless_memory : WordsRefusal → Option WordsRefusal
@@ -108,6 +121,10 @@ gen_words seed calls = codes "gen" ∷ codes "--seed" ∷ seed ∷ codes "--call
 -- the words `load --seed SEED --calls CALLS --threads THREADS`
 abbrev pub load_words : Text → Text → Text → List Text
 load_words seed calls threads = codes "load" ∷ codes "--seed" ∷ seed ∷ codes "--calls" ∷ calls ∷ codes "--threads" ∷ threads ∷ []
+
+-- the words `serve --port PORT`
+abbrev pub serve_words : Text → List Text
+serve_words port = codes "serve" ∷ codes "--port" ∷ port ∷ []
 
 -- words and what they ask for
 pub record ExamplesOfWords : Type 0 where
@@ -144,6 +161,15 @@ pub record ExamplesOfWords : Type 0 where
   pub padded_threads : program_words_in (load_words (codes "7") (codes "1") (codes "01")) ≡ Err Usage
   pub no_threads : program_words_in (codes "load" ∷ codes "--seed=1" ∷ codes "--calls=1" ∷ []) ≡ Err Usage
   pub made_on_threads : program_words_in (codes "gen" ∷ codes "--seed=1" ∷ codes "--calls=1" ∷ codes "--threads=1" ∷ []) ≡ Err Usage
+  pub served : program_words_in (serve_words (codes "7171")) ≡ Ok (Serve 7171)
+  pub greatest_port : program_words_in (serve_words (codes "65535")) ≡ Ok (Serve 65535)
+  pub past_greatest_port : program_words_in (serve_words (codes "65536")) ≡ Err Usage
+  pub port_zero : program_words_in (serve_words (codes "0")) ≡ Err Usage
+  pub padded_port : program_words_in (serve_words (codes "01")) ≡ Err Usage
+  pub no_port : program_words_in (codes "serve" ∷ []) ≡ Err Usage
+  pub served_on_threads : program_words_in (codes "serve" ∷ codes "--port=1" ∷ codes "--threads=1" ∷ []) ≡ Err Usage
+  pub run_of_serve : words_in (serve_words (codes "7171")) ≡ Err Usage
+  pub help_of_serve : asks_alone (faults_in (codes "serve" ∷ codes "--help" ∷ [])) ≡ true
   pub help_of_load : asks_alone (faults_in (codes "load" ∷ codes "--help" ∷ [])) ≡ true
   pub help : asks_alone (faults_in (codes "--help" ∷ [])) ≡ true
   pub help_of_run : asks_alone (faults_in (codes "run" ∷ codes "--help" ∷ [])) ≡ true

@@ -1,8 +1,8 @@
 //! The command that the program's words are read by.
 ghost use Rattle.std.specs.Prelude.{◌≡◌, IfOk, false, map, string_bytes};
 ghost use Rattle.clap.specs.Words.{FailsBy, app_of, rule_of, shape_of, subcommand_rows_of, with_rule, with_subcommand};
-ghost use Rattle.command_words.specs.CommandLine.{bare_app, calls_rule, faults_in, gen_shape, load_shape, number_rule, run_shape};
-ghost use Rattle.command_words.specs.CommandLine.{seed_rule, subcommand_in, tao_app, threadless_app};
+ghost use Rattle.command_words.specs.CommandLine.{bare_app, calls_rule, faults_in, gen_shape, load_shape, made_app, number_rule, run_shape};
+ghost use Rattle.command_words.specs.CommandLine.{seed_rule, serve_shape, subcommand_in, tao_app, threadless_app};
 ghost use Rattle.clap.specs.declared.builder.command.Command.TheViews.{out-Command as fields_of};
 
 use clap::builder::ValueParser;
@@ -19,11 +19,17 @@ const GEN_EXAMPLE: &str = "Example: tao gen --seed 7 --calls 2000 < examples/rea
 const LOAD_EXAMPLE: &str =
     "Example: tao load --seed 7 --calls 2000 --threads 2 < examples/realistic.jsonl";
 
+/// What stands below the help of `serve`.
+const SERVE_EXAMPLE: &str = "Example: tao serve --port 7171 < examples/realistic.jsonl";
+
 /// The most calls that a generated run has.
 const MAX_CALLS: u64 = 100_000;
 
 /// The most threads that make calls.
 const MAX_THREADS: u64 = 16;
+
+/// The greatest port.
+const MAX_PORT: u64 = 65_535;
 
 /// The subcommand that serves standard input.
 fn run_command<'a>(alloc: Global) -> Result<Command<'a>, AllocError>
@@ -114,6 +120,23 @@ fn load_command<'a>(alloc: Global) -> Result<Command<'a>, AllocError>
     )
 }
 
+/// The subcommand that serves clients over TCP.
+fn serve_command<'a>(alloc: Global) -> Result<Command<'a>, AllocError>
+    ensures shape { IfOk result (λ c. shape_of c ≡ serve_shape) }
+    ensures local { IfOk result (λ c. (fields_of c).has_globals ≡ false) }
+{
+    let port = number_arg(alloc, "port", 1, MAX_PORT);
+    let served = Command::new(alloc, "serve")
+        .about(
+            "Reads a configuration line, and then serves clients that connect to a port of 127.0.0.1: one JSON request a line, and one JSON reply a line",
+        )
+        .after_help(SERVE_EXAMPLE);
+    served.arg(
+        port.value_name("N")
+            .help("The port that clients connect to"),
+    )
+}
+
 /// The program with `run`.
 fn bare_command<'a>(alloc: Global) -> Result<Command<'a>, AllocError>
     ensures app { IfOk result (λ c. app_of c ≡ with_subcommand bare_app run_shape) }
@@ -137,15 +160,25 @@ fn described<'a>(tao: Command<'a>) -> Command<'a>
         .after_help(EXAMPLE)
 }
 
-/// The command with its subcommands.
-fn tao_command<'a>(alloc: Global) -> Result<Command<'a>, AllocError>
-    ensures { IfOk result (λ c. app_of c ≡ tao_app) }
+/// The program with the subcommands that read a configuration, and make their requests themselves.
+fn made_command<'a>(alloc: Global) -> Result<Command<'a>, AllocError>
+    ensures app { IfOk result (λ c. app_of c ≡ made_app) }
+    ensures local { IfOk result (λ c. (fields_of c).has_globals ≡ false) }
 {
     let made = gen_command(alloc)?;
     let loaded = load_command(alloc)?;
     let tao = described(bare_command(alloc)?);
     let tao = tao.subcommand(made)?;
     tao.subcommand(loaded)
+}
+
+/// The command with its subcommands.
+fn tao_command<'a>(alloc: Global) -> Result<Command<'a>, AllocError>
+    ensures { IfOk result (λ c. app_of c ≡ tao_app) }
+{
+    let served = serve_command(alloc)?;
+    let tao = made_command(alloc)?;
+    tao.subcommand(served)
 }
 
 /// What the words are for the command.

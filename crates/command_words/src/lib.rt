@@ -1,7 +1,7 @@
 //! The words of a command line: what they ask the program to do.
 //!
-//! What it promises. Words ask for a run, with a file or without, for made requests, or for these on threads, exactly where the
-//! parse of the command line has no fault; every refusal but out of memory is a usage.
+//! What it promises. Words ask for a run, with a file or without, for made requests, for these on threads, or for a server, exactly where
+//! the parse of the command line has no fault; every refusal but out of memory is a usage.
 //!
 //! The contracts that say so: `read_program_words`, `read_words`, `asked_text`; `words_by_example`.
 #![tactic(auto)]

@@ -4,8 +4,8 @@ ghost use Rattle.clap.specs.Values.{kind_of};
 ghost use Rattle.clap.specs.Words.{first_of, found_of, rows_of, subcommand_rows_of};
 ghost use Rattle.outcomes.specs.Results.{Gives};
 ghost use Rattle.topology.specs.Lookup.{number_below};
-ghost use Rattle.command_words.specs.Read.{HasThreads, HasThreadsIfAny, command_in, gen_in, load_in, number_in, program_words_in, refusal_by};
-ghost use Rattle.command_words.specs.Read.{thread_count, usage_unless_memory, words_in};
+ghost use Rattle.command_words.specs.Read.{HasThreads, HasThreadsIfAny, command_in, gen_in, load_in, number_in, port_number, program_words_in, refusal_by};
+ghost use Rattle.command_words.specs.Read.{serve_in, thread_count, usage_unless_memory, words_in};
 
 use crate::command::parse;
 use clap::error::ErrorKind;
@@ -38,6 +38,8 @@ pub enum ProgramWords {
     OneThread(Words),
     /// What threads do.
     Load(LoadWords),
+    /// To serve clients that connect to this port, from 1 to 65,535.
+    Serve { port: u16 },
 }
 
 /// Why the words say nothing.
@@ -151,6 +153,31 @@ fn load_in(alloc: Global, given: &ArgMatches<'_>) -> Result<Option<LoadWords>, A
     }))
 }
 
+/// The port that a number is.
+fn port_number(number: u64) -> Option<u16>
+    ensures { result ≡ port_number number }
+{
+    if 0 < number && number < 65_536 {
+        Some(number as u16)
+    } else {
+        None
+    }
+}
+
+/// What `serve` is asked for.
+fn serve_in(alloc: Global, given: &ArgMatches<'_>) -> Result<Option<ProgramWords>, AllocError>
+    ensures words { IfOk result (λ words. words ≡ serve_in (rows_of (found_of given.now))) }
+    ensures threads { IfOk result (λ words. IfSome words HasThreadsIfAny) }
+{
+    let Some(number) = number_in(alloc, given, "port")? else {
+        return Ok(None);
+    };
+    let Some(port) = port_number(number) else {
+        return Ok(None);
+    };
+    Ok(Some(ProgramWords::Serve { port }))
+}
+
 /// What the subcommand that was named is asked for.
 fn command_in(alloc: Global, matches: &ArgMatches<'_>) -> Result<Option<ProgramWords>, AllocError>
     ensures words { IfOk result (λ words. words ≡ option_and_then command_in (subcommand_rows_of matches.now)) }
@@ -159,7 +186,8 @@ fn command_in(alloc: Global, matches: &ArgMatches<'_>) -> Result<Option<ProgramW
     match matches.subcommand() {
         Some(("run", given)) => Ok(Some(ProgramWords::OneThread(run_in(alloc, given)?))),
         Some(("gen", given)) => Ok(gen_in(alloc, given)?.map(ProgramWords::OneThread)),
-        Some((_, given)) => Ok(load_in(alloc, given)?.map(ProgramWords::Load)),
+        Some(("load", given)) => Ok(load_in(alloc, given)?.map(ProgramWords::Load)),
+        Some((_, given)) => serve_in(alloc, given),
         None => Ok(None),
     }
 }
@@ -192,6 +220,6 @@ pub fn read_words(alloc: Global, words: &[String]) -> Result<Words, WordsRefusal
 {
     match read_program_words(alloc, words)? {
         ProgramWords::OneThread(words) => Ok(words),
-        ProgramWords::Load(_) => Err(WordsRefusal::Usage),
+        ProgramWords::Load(_) | ProgramWords::Serve { .. } => Err(WordsRefusal::Usage),
     }
 }

@@ -1,12 +1,16 @@
 //! What the words of a command line ask for.
 use crate::load::load;
 use crate::run::{NO_MEMORY, in_file, in_memory};
+use crate::serve::serve;
 use command_words::{ProgramWords, Words, WordsRefusal, asked_text, read_program_words};
+use std::alloc::AllocGlobal;
 use std::env;
 use std::io::{self, ErrorKind};
 use std::process::ExitCode;
+use std::random::RandomSource;
 use std::sync::Wait;
 use std::thread::Threads;
+use std::time::Clock;
 use tao_base::Text;
 use tao_io::{StdSink, write_all};
 
@@ -50,18 +54,26 @@ fn run(rt: &HostRuntime, words: &[String], asked: &Words) -> u8 {
     }
 }
 
-/// Does what the words ask for. The threads are those that a load makes.
-fn obey<R: Threads + Wait + Sync>(rt: &HostRuntime, threads: &R, words: &[String]) -> u8 {
+/// Does what the words ask for. The threads are those that a load or a server makes.
+fn obey<R: Threads + Wait + Clock + RandomSource + AllocGlobal + Sync>(
+    rt: &HostRuntime,
+    threads: &R,
+    words: &[String],
+) -> u8 {
     match read_program_words(rt.alloc(), words) {
         Ok(ProgramWords::OneThread(asked)) => run(rt, words, &asked),
         Ok(ProgramWords::Load(asked)) => load(rt, threads, asked),
+        Ok(ProgramWords::Serve { port }) => serve(rt, threads, port),
         Err(WordsRefusal::Usage) => answer(rt, words),
         Err(WordsRefusal::OutOfMemory) => NO_MEMORY,
     }
 }
 
 /// Does what the words of the process ask for, and answers its status.
-pub fn start<R: Threads + Wait + Sync>(rt: &HostRuntime, threads: &R) -> ExitCode {
+pub fn start<R: Threads + Wait + Clock + RandomSource + AllocGlobal + Sync>(
+    rt: &HostRuntime,
+    threads: &R,
+) -> ExitCode {
     let code = match words(rt) {
         Ok(words) => obey(rt, threads, &words),
         Err(error) if error.kind() == ErrorKind::OutOfMemory => NO_MEMORY,

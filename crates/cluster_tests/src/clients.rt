@@ -4,22 +4,15 @@ ghost use Rattle.std.specs.Prelude.{◌<◌, IfSome};
 ghost use Rattle.log_names.specs.Names.{IsOfLog};
 ghost use Rattle.shared_tiers.specs.locked_nodes.Passes.{IsPassOf};
 
-use crate::asking::{Ask, request_of};
-use crate::replying::text_of;
-use core_model::tier_count;
-use keepers::SteadyKeeper;
+use cluster_plays::{Ask, Steady, pass_of, request_of, text_of};
 use replies::Reply;
 use session_pass::Pass;
 use shard_log::Note;
 use shared_stores::Sharing;
-use shared_tiers::Cluster;
 use std::alloc::Global;
 use std::marker::PhantomData;
 use std::sync::Wait;
 use tao_link::SteadyLink;
-
-/// A cluster over keepers that never fail.
-pub(crate) type Steady<'c, J> = Cluster<'c, SteadyKeeper, J>;
 
 /// A session: its pass, and a link that never fails.
 #[derive(Drop)]
@@ -52,21 +45,14 @@ impl<J: Sharing> Client<J> {
         session: u32,
         home: (u16, u16),
     ) -> Option<Client<J>> {
-        let (region, tier) = home;
-        let config = cluster.config();
-        if usize::from(region) >= config.regions.as_slice().len()
-            || tier >= tier_count(config, region)
-        {
-            return None;
-        }
-        match cluster.pass(rt, session, region, tier) {
-            Ok(pass) => Some(Client {
+        match pass_of(rt, cluster, session, home) {
+            Some(pass) => Some(Client {
                 session,
                 pass,
                 link: SteadyLink::make(),
                 of: PhantomData,
             }),
-            Err(_) => None,
+            None => None,
         }
     }
 

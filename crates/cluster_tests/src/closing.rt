@@ -4,9 +4,9 @@ ghost use Rattle.keepers.specs.Shown.{told_in};
 ghost use Rattle.log_names.specs.Names.{IsOfLog};
 ghost use Rattle.shared_tiers.specs.cluster_closing.unlocked_nodes.Unlocked.{MaySettle};
 
-use crate::clients::{Client, Steady};
+use crate::clients::Client;
 use crate::playing::{Closing, HOMES, add_line};
-use crate::replying::text_of;
+use cluster_plays::{Steady, text_of};
 use core_model::store_place;
 use node_name::NodeName;
 use shard_log::Note;

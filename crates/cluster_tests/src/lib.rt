@@ -4,8 +4,6 @@
 #![tactic(auto)]
 
 #[cfg(test)]
-mod asking;
-#[cfg(test)]
 mod clients;
 #[cfg(test)]
 mod closing;
@@ -13,8 +11,6 @@ mod closing;
 mod loading;
 #[cfg(test)]
 mod many_counts;
-#[cfg(test)]
-mod opening;
 #[cfg(test)]
 mod playing;
 #[cfg(test)]

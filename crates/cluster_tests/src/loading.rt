@@ -2,8 +2,9 @@
 //! whole call.
 ghost use Rattle.std.specs.Prelude.{◌<◌};
 
-use crate::opening::{SMALL, WIDE, keepers_for};
+use cluster_plays::{SMALL, WIDE};
 use config_json::read_config;
+use new_stores::keepers_for;
 use replies::Lengths;
 use std::alloc::Global;
 use std::process::Abort;

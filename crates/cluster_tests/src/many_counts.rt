@@ -1,7 +1,7 @@
 //! One session counts more lists than a follower may ask for at once: each ask ends.
-use crate::asking::{Ask, ListOf};
-use crate::clients::{Client, Steady};
+use crate::clients::Client;
 use crate::playing::HOMES;
+use cluster_plays::{Ask, ListOf, Steady};
 use shared_stores::Sharing;
 use std::alloc::Global;
 use std::sync::Wait;

@@ -1,13 +1,26 @@
 //! What is played on a cluster.
-use crate::asking::Ask;
-use crate::clients::{Client, Steady};
+ghost use Rattle.std.specs.Prelude.{◌≡◌, length, true};
+ghost use Rattle.core_model.specs.Stores.{store_count};
+ghost use Rattle.new_stores.specs.Empty.{tables_of};
+ghost use Rattle.shared_tiers.specs.cluster_opening.Opening.{IsOpenedOver, logs_of, making_of};
+
+use crate::clients::Client;
+use crate::closing::close_after;
 use crate::many_counts::counts_said;
 use crate::pumping::pump;
 use crate::together::write_together;
+use cluster_plays::{Ask, Steady};
+use config_json::read_config;
+use keepers::SteadyKeeper;
+use new_stores::open_new;
 use shared_stores::Sharing;
-use std::alloc::Global;
+use shared_tiers::cluster_opening::Opened;
+use std::alloc::{AllocGlobal, Global};
+use std::marker::Brand;
+use std::random::RandomSource;
 use std::sync::Wait;
 use std::thread::Threads;
+use topology::Config;
 
 /// Where the sessions are at home, which count from 1: the places of region and tier.
 pub(crate) const HOMES: [(u16, u16); 3] = [(0, 0), (0, 1), (1, 0)];
@@ -125,7 +138,7 @@ fn steps_said<J: Sharing, R: Wait>(
 }
 
 /// Adds to the lines what is said to a play.
-pub(crate) fn play_on<J: Sharing + Send + Sync, R: Threads + Wait + Sync>(
+fn play_on<J: Sharing + Send + Sync, R: Threads + Wait + Sync>(
     rt: &R,
     alloc: Global,
     cluster: &Steady<'_, J>,
@@ -137,5 +150,87 @@ pub(crate) fn play_on<J: Sharing + Send + Sync, R: Threads + Wait + Sync>(
         Play::Counts(lists) => add_line(lines, counts_said(rt, alloc, cluster, *lists)),
         Play::Together(times) => add_line(lines, write_together(rt, alloc, cluster, *times)),
         Play::Closing(closing) => steps_said(rt, alloc, cluster, closing.steps, lines),
+    }
+}
+
+/// Adds to the lines what is said at the end of a play.
+fn end<J: Sharing, R: Wait>(
+    rt: &R,
+    alloc: Global,
+    config: &Config,
+    cluster: Steady<'_, J>,
+    what: &Play<'_>,
+    lines: &mut Vec<String>,
+) -> Option<()> {
+    match what {
+        Play::Closing(closing) => close_after(rt, alloc, config, cluster, closing, lines),
+        _ => {
+            drop(cluster);
+            Some(())
+        }
+    }
+}
+
+/// What is said to a play on a cluster.
+fn lines_of<J: Sharing + Send + Sync, R: Threads + Wait + RandomSource + AllocGlobal + Sync>(
+    rt: &R,
+    config: &Config,
+    cluster: Steady<'_, J>,
+    what: &Play<'_>,
+) -> Option<Vec<String>> {
+    let mut lines = Vec::new(rt.alloc());
+    let played = play_on(rt, rt.alloc(), &cluster, what, &mut lines);
+    let ended = end(rt, rt.alloc(), config, cluster, what, &mut lines);
+    played?;
+    ended?;
+    Some(lines)
+}
+
+/// The same on stores that were opened, behind locks that are named.
+fn played_named<R: Threads + Wait + RandomSource + AllocGlobal + Sync, J: Sharing + Send + Sync>(
+    rt: &R,
+    opened: Opened<'_, SteadyKeeper>,
+    what: &Play<'_>,
+) -> Option<Vec<String>>
+    requires many { length opened.keepers.items ≡ store_count opened.config.now }
+    requires opened { IsOpenedOver true opened.config.now (tables_of opened.config.now opened.keepers.items) opened.fleet opened.cuts.items }
+    requires log { J.log ≡ logs_of opened.fleet.stores }
+    requires making { J.making ≡ making_of opened.config.now opened.fleet.stores opened.cuts.items }
+{
+    let config = opened.config;
+    match Steady::<'_, J>::make(opened) {
+        Ok(cluster) => lines_of(rt, config, cluster, what),
+        Err(fail) => {
+            drop(fail);
+            None
+        }
+    }
+}
+
+/// The same on stores that were opened. It is no `ClusterPlay`: what is sent to a thread may rest on no bound that an `impl` assumes.
+fn played_opened<R: Threads + Wait + RandomSource + AllocGlobal + Sync>(
+    rt: &R,
+    opened: Opened<'_, SteadyKeeper>,
+    what: &Play<'_>,
+) -> Option<Vec<String>>
+    requires many { length opened.keepers.items ≡ store_count opened.config.now }
+    requires opened { IsOpenedOver true opened.config.now (tables_of opened.config.now opened.keepers.items) opened.fleet opened.cuts.items }
+{
+    played_named::<R, Brand>(rt, opened, what)
+}
+
+/// What is said to a play on a new cluster of the configuration of a line. None for want of memory, or where the line is no configuration.
+pub(crate) fn played<R: Threads + Wait + RandomSource + AllocGlobal + Sync>(
+    rt: &R,
+    line: &str,
+    what: &Play<'_>,
+) -> Option<Vec<String>> {
+    let alloc = rt.alloc();
+    let Ok(config) = read_config(alloc, line.as_bytes()) else {
+        return None;
+    };
+    match open_new(alloc, &config, line.as_bytes()) {
+        Ok(opened) => played_opened(rt, opened, what),
+        Err(_) => None,
     }
 }

@@ -2,7 +2,7 @@
 ghost use Rattle.std.specs.Prelude.{Contains, IfSome, IsTrue};
 ghost use Rattle.shared_tiers.specs.cluster_pumps.Hands.{IsNodeIn};
 
-use crate::clients::Steady;
+use cluster_plays::Steady;
 use core_model::{follower_names, leader_names};
 use node_name::NodeName;
 use shared_stores::Sharing;

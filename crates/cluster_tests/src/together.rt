@@ -1,8 +1,8 @@
 //! Two threads write to one list and count it, each by a session of its own, in two regions. What each is told never goes back, whatever the schedule.
-use crate::asking::{Ask, ListOf};
-use crate::clients::{Client, Steady};
+use crate::clients::Client;
 use crate::playing::HOMES;
 use crate::replying::{added, counted};
+use cluster_plays::{Ask, ListOf, Steady};
 use shared_stores::Sharing;
 use std::alloc::Global;
 use std::sync::Wait;

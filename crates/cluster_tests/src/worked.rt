@@ -1,9 +1,9 @@
 //! What clusters of three configurations say, line by line.
-use crate::asking::{Ask, ListOf};
-use crate::opening::{SMALL, WIDE, played};
-use crate::playing::{Closing, Play, Step};
-use std::alloc::Global;
+use crate::playing::{Closing, Play, Step, played};
+use cluster_plays::{Ask, ListOf, SMALL, WIDE};
+use std::alloc::AllocGlobal;
 use std::process::Abort;
+use std::random::RandomSource;
 use std::sync::Wait;
 use std::test::Fail;
 use std::thread::Threads;
@@ -52,12 +52,11 @@ struct Row<'r> {
 }
 
 /// Plays and compares.
-fn compare<R: Threads + Wait + Sync + Abort>(
+fn compare<R: Threads + Wait + RandomSource + AllocGlobal + Sync + Abort>(
     rt: &R,
-    alloc: Global,
     row: &Row<'_>,
 ) -> Result<(), Fail> {
-    let Some(said) = played(rt, alloc, row.line, &row.play) else {
+    let Some(said) = played(rt, row.line, &row.play) else {
         return Err("memory")?;
     };
     assert_eq!(rt; said.len(), row.want.len());
@@ -82,7 +81,7 @@ fn an_edge_is_read_back_and_kept(rt: HostRuntime) -> Result<(), Fail> {
             "{\"edges\":[{\"data\":{},\"id2\":2,\"time\":5}],\"hops\":0,\"kept\":true,\"ok\":\"assoc_range\",\"store\":false,\"version\":1}",
         ],
     };
-    compare(&rt, rt.alloc(), &row)
+    compare(&rt, &row)
 }
 
 /// An ask ends with its read: else no more than 256 could be kept.
@@ -93,7 +92,7 @@ fn the_counts_of_300_lists_are_kept(rt: HostRuntime) -> Result<(), Fail> {
         play: Play::Counts(300),
         want: &["300"],
     };
-    compare(&rt, rt.alloc(), &row)
+    compare(&rt, &row)
 }
 
 /// The region's own store doesn't have the edge yet. What the session read of the master it is told once more, though its follower let go of it.
@@ -114,7 +113,7 @@ fn a_read_never_goes_back(rt: HostRuntime) -> Result<(), Fail> {
             "{\"edges\":[{\"data\":{},\"id2\":2,\"time\":5}],\"hops\":4,\"kept\":true,\"ok\":\"assoc_range\",\"store\":true,\"version\":1}",
         ],
     };
-    compare(&rt, rt.alloc(), &row)
+    compare(&rt, &row)
 }
 
 /// A slave region's leader and follower get their messages once its store has the entry.
@@ -143,7 +142,7 @@ fn a_pumped_node_processes_what_waits_for_it(rt: HostRuntime) -> Result<(), Fail
             "empty, empty, empty",
         ],
     };
-    compare(&rt, rt.alloc(), &row)
+    compare(&rt, &row)
 }
 
 /// What a message drops is read anew, from the leader's item, which took the change.
@@ -166,7 +165,7 @@ fn a_pumped_follower_drops_what_is_behind(rt: HostRuntime) -> Result<(), Fail> {
             "{\"edges\":[{\"data\":{},\"id2\":3,\"time\":6},{\"data\":{},\"id2\":2,\"time\":5}],\"hops\":2,\"kept\":true,\"ok\":\"assoc_range\",\"store\":false,\"version\":2}",
         ],
     };
-    compare(&rt, rt.alloc(), &row)
+    compare(&rt, &row)
 }
 
 /// The other end of an edge lies on another shard, or on the same.
@@ -187,7 +186,7 @@ fn both_ends_are_written(rt: HostRuntime) -> Result<(), Fail> {
             "{\"changed\":true,\"hops\":2,\"inverse\":\"written\",\"ok\":\"assoc_add\",\"position\":2,\"retry\":false}",
         ],
     };
-    compare(&rt, rt.alloc(), &row)
+    compare(&rt, &row)
 }
 
 /// Each session writes 200 edges of one list: each count has all of what the session was told before and what it wrote, and in the end there are 400.
@@ -198,7 +197,7 @@ fn what_two_threads_are_told_never_goes_back(rt: HostRuntime) -> Result<(), Fail
         play: Play::Together(200),
         want: &["200 200, 400 400, 400 400"],
     };
-    compare(&rt, rt.alloc(), &row)
+    compare(&rt, &row)
 }
 
 /// What the other region's stores and nodes were behind with is there once the closed cluster is settled, and each keeper has its store's whole log.
@@ -230,5 +229,5 @@ fn a_closed_cluster_settles(rt: HostRuntime) -> Result<(), Fail> {
         }),
         want: &CLOSED,
     };
-    compare(&rt, rt.alloc(), &row)
+    compare(&rt, &row)
 }

@@ -1,15 +1,15 @@
-//! The requests that the tests ask.
+//! What a session asks.
 use requests::{Call, EdgeName, ListName, QueryText, ReadCall, Request, WriteCall, WriteText};
 use std::alloc::Global;
 use tao_base::{Data, Id, Text};
 
 /// The list of the edges of a type that go out from an id.
 #[derive(Clone, Copy)]
-pub(crate) struct ListOf(pub(crate) u64, pub(crate) &'static str);
+pub struct ListOf(pub u64, pub &'static str);
 
 /// What a session asks.
 #[derive(Clone, Copy)]
-pub(crate) enum Ask {
+pub enum Ask {
     /// Adds an edge without data to the list: its other end and its time, and the number of the session's write.
     Add(ListOf, u64, u32, u64),
     /// The first ten edges of the list.
@@ -74,7 +74,7 @@ fn add(
 }
 
 /// The request of a session. None for want of memory, or where a number is no id.
-pub(crate) fn request_of(alloc: Global, session: u32, ask: Ask) -> Option<Request> {
+pub fn request_of(alloc: Global, session: u32, ask: Ask) -> Option<Request> {
     match ask {
         Ask::Add(list, id2, time, seq) => add(alloc, session, list, id2, time, seq),
         Ask::Range(list) => range(alloc, session, list, false),

@@ -1,0 +1,10 @@
+use Rattle.shared_tiers.specs.cluster_opening.Opening.{logs_of, making_of}
+use Rattle.cluster_plays.proofs.playing.played_opened.Given as goal
+
+-- the logs of the stores that were opened
+abbrev pub ghosts-played_named-J-Logs : goal.ghosts-played_named-J-Logs
+ghosts-played_named-J-Logs g a = record { log = logs_of a.opened.fleet.stores }
+
+-- what they were opened with
+abbrev pub ghosts-played_named-J-Sharing : goal.ghosts-played_named-J-Sharing
+ghosts-played_named-J-Sharing g a = record { making = making_of a.opened.config.now a.opened.fleet.stores a.opened.cuts.items }

@@ -1,2 +1,3 @@
 pub mod MetIds
+pub mod ReadAhead
 pub mod Untold

@@ -1,7 +1,8 @@
 //! Logs in two parts, and logs that are cut back.
+use crate::ahead::Part;
 use crate::columns::fail_of;
 use crate::effects::{drop_effects, put_effects};
-use crate::reading::{self, LIVE_ENTRY, OLD_ENTRY, cut_of, entry_of};
+use crate::reading::{self, cut_of, entry_of};
 use crate::rows::{AtOnce, Tables, place, step};
 use sqlite::{Alter, Transaction, params};
 use std::alloc::Global;
@@ -106,12 +107,12 @@ impl CuttingBack {
         drop_effects(tx, self.at)?;
         for before in 0..self.length {
             let position = before + 1;
-            let sql = if position <= self.cut {
-                OLD_ENTRY
+            let part = if position <= self.cut {
+                Part::Old
             } else {
-                LIVE_ENTRY
+                Part::Live
             };
-            put_again(self.alloc, tx, self.at, position, sql)?;
+            put_again(self.alloc, tx, self.at, position, part.one())?;
         }
         Ok(())
     }

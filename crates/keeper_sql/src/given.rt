@@ -97,7 +97,8 @@ fn is_given_entry(entry: &Entry) -> bool
 
 /// The entry, where it stands at that position and may be handed out.
 pub(crate) fn entry(entry: Entry, position: u64) -> Result<Entry, KeepFail>
-    ensures { IfOk result (λ given. (given ≡ entry) × IsGivenEntry given) }
+    ensures same { IfOk result (λ given. (given ≡ entry) × IsGivenEntry given) }
+    ensures at { IfOk result (λ given. given.position ≡ position) }
 {
     if entry.position == position && is_given_entry(&entry) {
         Ok(entry)

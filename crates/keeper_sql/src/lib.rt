@@ -11,6 +11,7 @@
 //! The contracts that say so: `SqlKeeper::open_memory`, `open_file`.
 #![tactic(auto)]
 
+mod ahead;
 mod columns;
 mod cutting;
 mod effects;

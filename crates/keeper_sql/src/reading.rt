@@ -1,8 +1,9 @@
 //! What is read of the tables.
-ghost use Rattle.std.specs.Prelude.{◌<◌, ◌≤◌, IfOk, IfSome};
+ghost use Rattle.std.specs.Prelude.{◌≡◌, ◌<◌, ◌≤◌, IfOk, IfSome};
 ghost use Rattle.graph_model.specs.Edges.{number_of};
 ghost use Rattle.tao_keeper.specs.Given.{AreGiven, IsGivenEntry, IsGivenJob, IsGivenRole, IsPosition};
 
+use crate::ahead::{Part, Spot, entry_row};
 use crate::columns::{bytes, id, maybe_bytes, number, short, word};
 use crate::rows::{Tables, place};
 use crate::{given, spelled};
@@ -229,34 +230,27 @@ pub(crate) fn cut_of(tables: &mut Tables, at: StoreName) -> Result<u64, KeepFail
     given::few(number_or_none(row)?)
 }
 
-/// The row of the live entry at a position.
-pub(crate) const LIVE_ENTRY: &str =
-    "SELECT entry FROM log WHERE region = ?1 AND shard = ?2 AND position = ?3";
-
-/// The row of the old entry at a position.
-pub(crate) const OLD_ENTRY: &str =
-    "SELECT entry FROM old_log WHERE region = ?1 AND shard = ?2 AND position = ?3";
-
 /// The entry of a row, which has to stand at that position.
 pub(crate) fn entry_of(alloc: Global, row: &Row, position: u64) -> Result<Entry, KeepFail>
-    ensures { IfOk result IsGivenEntry }
+    ensures given { IfOk result IsGivenEntry }
+    ensures at { IfOk result (λ entry. entry.position ≡ position) }
 {
     let entry = spelled::entry_of(alloc, &bytes(row, 0)?)?;
     given::entry(entry, position)
 }
 
-/// The entry at a position of that part of the log of which the query gives the row.
-fn entry_by(
+/// The entry at a position of a part of the log.
+fn entry_in(
     alloc: Global,
     tables: &mut Tables,
     at: StoreName,
     position: u64,
-    sql: &str,
+    part: Part,
 ) -> Result<Option<Entry>, KeepFail>
-    ensures { IfOk result (λ found. IfSome found IsGivenEntry) }
+    ensures given { IfOk result (λ found. IfSome found IsGivenEntry) }
+    ensures at { IfOk result (λ found. IfSome found (λ entry. entry.position ≡ position)) }
 {
-    let (region, shard) = place(at);
-    match tables.first(sql, params![region, shard, position.cast_signed()])? {
+    match entry_row(tables, Spot { at, part, position })? {
         Some(row) => Ok(Some(entry_of(alloc, &row, position)?)),
         None => Ok(None),
     }
@@ -269,9 +263,10 @@ pub(crate) fn entry(
     at: StoreName,
     position: u64,
 ) -> Result<Option<Entry>, KeepFail>
-    ensures { IfOk result (λ found. IfSome found IsGivenEntry) }
+    ensures given { IfOk result (λ found. IfSome found IsGivenEntry) }
+    ensures at { IfOk result (λ found. IfSome found (λ entry. entry.position ≡ position)) }
 {
-    entry_by(alloc, tables, at, position, LIVE_ENTRY)
+    entry_in(alloc, tables, at, position, Part::Live)
 }
 
 /// The old entry at a position.
@@ -281,9 +276,10 @@ pub(crate) fn old_entry(
     at: StoreName,
     position: u64,
 ) -> Result<Option<Entry>, KeepFail>
-    ensures { IfOk result (λ found. IfSome found IsGivenEntry) }
+    ensures given { IfOk result (λ found. IfSome found IsGivenEntry) }
+    ensures at { IfOk result (λ found. IfSome found (λ entry. entry.position ≡ position)) }
 {
-    entry_by(alloc, tables, at, position, OLD_ENTRY)
+    entry_in(alloc, tables, at, position, Part::Old)
 }
 
 /// The serial of the last object that was added.

@@ -1,15 +1,26 @@
 //! The tables, in memory or in a file, and single statements over them, of which each has a fixed text.
+ghost use Rattle.std.specs.Prelude.{◌≡◌, IsNone};
+
+use crate::ahead::Ahead;
 use crate::columns::fail_of;
 use sqlite::types::ValueRef;
 use sqlite::{Alter, Connection, Error, File, FileStore, MemStore, Row, Transaction};
+use std::alloc::Global;
 use tao_base::StoreName;
 use tao_keeper::KeepFail;
 
 /// The connection to the tables.
 #[derive(Drop)]
-pub(crate) enum Tables {
+pub(crate) enum Database {
     Memory(Connection<MemStore>),
     File(Connection<FileStore<File>>),
+}
+
+/// The tables, with rows of a log that were read ahead.
+#[derive(Drop)]
+pub(crate) struct Tables {
+    database: Database,
+    pub ahead: Ahead,
 }
 
 /// A store's name as it stands in each row.
@@ -130,11 +141,23 @@ fn transact<S: Alter, W: AtOnce>(conn: &mut Connection<S>, work: &W) -> Result<(
 }
 
 impl Tables {
-    /// What a statement is asked for.
-    fn ask<A: Asked>(&mut self, sql: &str, params: &[ValueRef<'_>]) -> Result<A::Told, KeepFail> {
-        match self {
-            Tables::Memory(conn) => A::ask(conn, sql, params),
-            Tables::File(conn) => A::ask(conn, sql, params),
+    /// The tables behind a connection, of which nothing was read.
+    pub(crate) fn of(alloc: Global, database: Database) -> Tables
+        ensures { IsNone result.ahead.next }
+    {
+        Tables {
+            database,
+            ahead: Ahead::new(alloc),
+        }
+    }
+
+    /// What a statement is asked for. What was read ahead stays.
+    fn ask<A: Asked>(&mut self, sql: &str, params: &[ValueRef<'_>]) -> Result<A::Told, KeepFail>
+        ensures { self.new.ahead.next ≡ self.old.ahead.next }
+    {
+        match &mut self.database {
+            Database::Memory(conn) => A::ask(conn, sql, params),
+            Database::File(conn) => A::ask(conn, sql, params),
         }
     }
 
@@ -152,8 +175,11 @@ impl Tables {
         self.ask::<All>(sql, params)
     }
 
-    /// A statement that gives no rows.
-    pub(crate) fn run(&mut self, sql: &str, params: &[ValueRef<'_>]) -> Result<(), KeepFail> {
+    /// A statement that gives no rows. What was read ahead is forgotten, whether it is done or not.
+    pub(crate) fn run(&mut self, sql: &str, params: &[ValueRef<'_>]) -> Result<(), KeepFail>
+        ensures { IsNone self.new.ahead.next }
+    {
+        self.ahead.forget();
         self.ask::<Nothing>(sql, params)
     }
 
@@ -162,11 +188,14 @@ impl Tables {
         self.ask::<HasColumns>(sql, &[])
     }
 
-    /// Steps in one transaction.
-    pub(crate) fn at_once<W: AtOnce>(&mut self, work: &W) -> Result<(), KeepFail> {
-        match self {
-            Tables::Memory(conn) => transact(conn, work),
-            Tables::File(conn) => transact(conn, work),
+    /// Steps in one transaction. What was read ahead is forgotten, whether they are done or not.
+    pub(crate) fn at_once<W: AtOnce>(&mut self, work: &W) -> Result<(), KeepFail>
+        ensures { IsNone self.new.ahead.next }
+    {
+        self.ahead.forget();
+        match &mut self.database {
+            Database::Memory(conn) => transact(conn, work),
+            Database::File(conn) => transact(conn, work),
         }
     }
 }

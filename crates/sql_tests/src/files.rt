@@ -38,10 +38,11 @@ pub const ROWS: [&str; 10] = [
 ];
 
 /// What is answered of these rows.
-pub const FOUND: [(Call, u64); 18] = [
+pub const FOUND: [(Call, u64); 19] = [
     (Call::Length, 3),
     (Call::LastSerial, 1),
     (Call::Entry(1), 1),
+    (Call::Entry(2), 2),
     (Call::Entry(3), 3),
     (Call::Entry(4), 0),
     (Call::Origin(2), 2),

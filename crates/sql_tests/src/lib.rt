@@ -10,6 +10,8 @@ mod earlier;
 #[cfg(test)]
 mod files;
 #[cfg(test)]
+mod in_a_row;
+#[cfg(test)]
 mod parts;
 #[cfg(test)]
 mod refused;

@@ -27,7 +27,7 @@ enum Step {
 }
 
 /// The steps, and what is answered: 0 of a step that is done, nothing where it fails.
-const STEPS: [(Step, Option<u64>); 44] = [
+const STEPS: [(Step, Option<u64>); 46] = [
     (Step::Ask(Call::Role), Some(0)),
     (Step::SetRole(7), Some(0)),
     (Step::SetRole(8), Some(0)),
@@ -50,6 +50,8 @@ const STEPS: [(Step, Option<u64>); 44] = [
     (Step::Cut(4), None),
     (Step::CutBack(0, None), None),
     (Step::CutBack(4, None), None),
+    (Step::Ask(Call::Entry(1)), Some(0)),
+    (Step::Ask(Call::Entry(2)), Some(2)),
     (Step::CutBack(2, Some(9)), Some(0)),
     (Step::Ask(Call::Length), Some(2)),
     (Step::Ask(Call::Entry(3)), Some(0)),

@@ -1,0 +1,5 @@
+mod Calls
+mod KeyTest
+mod Looks
+mod Moved
+mod SameQueries

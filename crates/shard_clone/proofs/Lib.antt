@@ -1,0 +1,3 @@
+mod Places
+mod Rows
+mod Uncloned
